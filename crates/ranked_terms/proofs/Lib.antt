@@ -1,0 +1,5 @@
+pub mod SignatureLaws
+mod SignatureLemmas
+pub mod TermLaws
+pub mod InstanceLaws
+pub mod VariableLaws

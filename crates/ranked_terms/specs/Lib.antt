@@ -1,4 +1,6 @@
 pub mod Words
 pub mod Names
+pub mod SignatureRules
 pub mod Terms
+pub mod Laws
 pub mod formers

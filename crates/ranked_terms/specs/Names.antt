@@ -1,7 +1,6 @@
 -- A signature as a list of names and arities.
-use Rattle.std.specs.Prelude.{◌≡◌, ℕ, ◌≤◌, ◌<◌, Bool, List, ◌∷◌, Option, length, map, option_map, position, slice_get, All, Contains}
+use Rattle.std.specs.Prelude.{ℕ, List, Option, map, option_map, position, slice_get}
 use Rattle.std.specs.Str.{bytes_eq}
-use Rattle.ranked_terms.specs.Words.{IsNameText}
 
 -- a symbol's name and its arity
 abbrev pub Symbol : Type 0

@@ -4,12 +4,17 @@
 //! and keeps its arguments in a `Seq`, which contracts see as a list.
 #![tactic(auto)]
 
+pub mod laws;
 mod name;
 mod position;
 mod seq;
+mod signature;
 mod term;
+#[cfg(test)]
+mod tests;
 
 pub use name::Name;
 pub use position::Position;
 pub use seq::Seq;
+pub use signature::{MAX_ARITY, MAX_NAME, MAX_SYMBOLS, SigError, Signature};
 pub use term::{Config, Pattern, Shape, Term};

@@ -42,6 +42,13 @@ impl<T> Seq<T> {
         Seq { items }
     }
 
+    /// The vector of the elements, which takes no memory.
+    pub fn into_vec(self) -> Vec<T>
+        ensures { result.items ≡ self }
+    {
+        self.items
+    }
+
     /// The elements in order.
     pub fn as_slice(&self) -> &[T]
         ensures { result.now ≡ self.now }

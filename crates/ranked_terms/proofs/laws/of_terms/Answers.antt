@@ -1,0 +1,15 @@
+use Rattle.ranked_terms.proofs.TermLaws.{size_node, config_of-injective}
+use Rattle.ranked_terms.proofs.InstanceLaws.{height_of-le, is_over-kept}
+use Rattle.ranked_terms.proofs.laws.of_terms.Goals as goal
+
+pub returns-clause-sizes : goal.returns-clause-sizes
+returns-clause-sizes c = size_node
+
+pub returns-clause-heights : goal.returns-clause-heights
+returns-clause-heights c = height_of-le
+
+pub returns-clause-stay : goal.returns-clause-stay
+returns-clause-stay c = is_over-kept
+
+pub returns-clause-configs : goal.returns-clause-configs
+returns-clause-configs c = config_of-injective

@@ -1,0 +1,11 @@
+pub mod Causes
+pub mod Counts
+pub mod FileShelf
+pub mod Files
+pub mod HonestShelf
+pub mod MemShelf
+pub mod MemSink
+pub mod Pieces
+pub mod Plans
+pub mod Shelves
+pub mod Whole

@@ -1,0 +1,109 @@
+//! The real files.
+ghost use Rattle.std.specs.Prelude.{◌≡◌, ℕ, ◌≤◌, List, None, IfOk, OnErr, OnOk, length};
+ghost use Rattle.tim_io.specs.Causes.{one_more, Rose};
+ghost use Rattle.tim_io.specs.FileShelf.{faults_in};
+
+use crate::shelf::{Shelf, TakeError};
+use std::alloc::Global;
+use std::collections::BTreeMap;
+use std::io::Read;
+use std::rt::Files;
+use std::{fs, io};
+
+/// A file that was asked for, once it is open, and how often it has failed.
+#[derive(Drop)]
+struct Opened<F> {
+    file: Option<F>,
+    faults: u64,
+}
+
+impl<F: Read + Drop> Opened<F> {
+    /// Reads on, and opens the file where it is not open yet.
+    fn read<R: Files<File = F>>(&mut self, rt: &R, name: &str, buf: &mut [u8]) -> io::Result<usize>
+        ensures bound { IfOk result (λ n. n ≤ length buf.new) }
+        ensures faults { self.new.faults ≡ self.old.faults }
+    {
+        let mut file = match self.file.take() {
+            Some(file) => file,
+            None => fs::open(rt, name)?,
+        };
+        let answer = file.read(buf);
+        self.file = Some(file);
+        answer
+    }
+
+    /// Reads on, and counts a fault.
+    fn take<R: Files<File = F>>(
+        &mut self,
+        rt: &R,
+        name: &str,
+        buf: &mut [u8],
+    ) -> Result<usize, TakeError>
+        ensures bound { IfOk result (λ n. n ≤ length buf.new) }
+        ensures later { self.old.faults ≤ self.new.faults }
+        ensures fault { OnErr result (self.new.faults ≡ one_more self.old.faults) }
+        ensures no_fault { OnOk result (self.new.faults ≡ self.old.faults) }
+    {
+        match self.read(rt, name, buf) {
+            Ok(count) => Ok(count),
+            Err(_) => {
+                self.faults = self.faults.saturating_add(1);
+                Err(TakeError::Failed)
+            }
+        }
+    }
+}
+
+/// The files of the system, each opened when it is first asked for and kept by its name, with that name's count of
+/// faults. It does not tell what a file has left.
+#[derive(Drop)]
+pub struct FileShelf<'a, R: Files> {
+    rt: &'a R,
+    alloc: Global,
+    files: BTreeMap<String, Opened<R::File>>,
+}
+
+impl<'a, R: Files> FileShelf<'a, R> {
+    /// The files of `rt`, none of them open yet.
+    pub fn new(rt: &'a R, alloc: Global) -> FileShelf<'a, R>
+        ensures { (name : List ℕ) → ⟦<FileShelf<'a, R> as Shelf>⟧.faults result name ≡ 0 }
+    {
+        FileShelf {
+            rt,
+            alloc,
+            files: BTreeMap::new(alloc),
+        }
+    }
+}
+
+impl<R: Files> Shelf for FileShelf<'_, R> {
+    ghost left = { λ shelf name. None };
+
+    ghost faults = { λ shelf. faults_in shelf.files };
+
+    /// A file that cannot be opened or read fails. `Memory` comes where there is no room to keep the file.
+    #[tactic(auto, using(std::proofs::lemmas::Map::Text::text_keys))]
+    fn take(&mut self, name: &str, buf: &mut [u8]) -> Result<usize, TakeError> {
+        if buf.is_empty() {
+            return Ok(0);
+        }
+        if let Some(opened) = self.files.get_mut(name) {
+            return opened.take(self.rt, name, buf);
+        }
+        // The file is kept before it is first read, so that no byte is lost at want of memory.
+        let Ok(key) = String::from_str(self.alloc, name) else {
+            return Err(TakeError::Memory);
+        };
+        let unread = Opened {
+            file: None,
+            faults: 0,
+        };
+        if self.files.insert(key, unread).is_err() {
+            return Err(TakeError::Memory);
+        }
+        match self.files.get_mut(name) {
+            Some(opened) => opened.take(self.rt, name, buf),
+            None => Err(TakeError::Memory),
+        }
+    }
+}

@@ -1,0 +1,5 @@
+use Rattle.trs_rules.proofs.StepLaws.{chains_append}
+use Rattle.trs_rules.proofs.laws.chains_append.Goals as goal
+
+pub returns : goal.returns
+returns c = chains_append

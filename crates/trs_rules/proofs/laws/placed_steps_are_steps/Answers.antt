@@ -1,0 +1,5 @@
+use Rattle.trs_rules.proofs.StepLaws.{placed_steps_are_steps}
+use Rattle.trs_rules.proofs.laws.placed_steps_are_steps.Goals as goal
+
+pub returns : goal.returns
+returns c = placed_steps_are_steps

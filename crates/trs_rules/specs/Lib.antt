@@ -1,0 +1,4 @@
+pub mod Rules
+pub mod Variables
+pub mod Steps
+pub mod Laws

@@ -1,0 +1,40 @@
+//! Laws of steps and chains, each as the contract of a function that does nothing.
+ghost use Rattle.trs_rules.specs.Laws.{PlacedStepsAreSteps, StepsArePlaced, ChainsAreTheirSteps, ChainsAppend, LeadsToItself, StepsLead, LeadsAreTransitive, MoreRulesKeepSteps, StepsStayOver, ChainsStayOver};
+
+/// A step at a position is a step.
+pub fn placed_steps_are_steps()
+    ensures { PlacedStepsAreSteps }
+{}
+
+/// Each step is a step by some rule at some position.
+pub fn steps_are_placed()
+    ensures { StepsArePlaced }
+{}
+
+/// A list is a chain exactly where it is not empty and each of its terms steps to the next.
+pub fn chains_are_their_steps()
+    ensures { ChainsAreTheirSteps }
+{}
+
+/// A chain up to a term and a chain from it are one chain.
+pub fn chains_append()
+    ensures { ChainsAppend }
+{}
+
+/// A chain leads from each term to itself, from a term to what it steps to, and on from where another has led.
+pub fn leads_is_a_preorder()
+    ensures itself { LeadsToItself }
+    ensures step { StepsLead }
+    ensures transitive { LeadsAreTransitive }
+{}
+
+/// Steps are kept where more rules follow.
+pub fn more_rules_keep_steps()
+    ensures { MoreRulesKeepSteps }
+{}
+
+/// Rules over a signature rewrite terms over it to terms over it, in one step and along a chain.
+pub fn steps_stay_over()
+    ensures steps { StepsStayOver }
+    ensures chains { ChainsStayOver }
+{}
