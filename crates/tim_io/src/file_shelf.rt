@@ -1,6 +1,6 @@
 //! The real files.
 ghost use Rattle.std.specs.Prelude.{◌≡◌, ℕ, ◌≤◌, List, None, IfOk, OnErr, OnOk, length};
-ghost use Rattle.tim_io.specs.Causes.{one_more, Rose};
+ghost use Rattle.tim_io.specs.Causes.{one_more};
 ghost use Rattle.tim_io.specs.FileShelf.{faults_in};
 
 use crate::shelf::{Shelf, TakeError};

@@ -9,7 +9,10 @@ pub struct HonestSink;
 
 impl HonestSink {
     /// An output that never fails.
-    pub fn new() -> HonestSink {
+    pub fn new() -> HonestSink
+        ensures written { ⟦<HonestSink as Sink>⟧.written result ≡ None }
+        ensures faults { ⟦<HonestSink as Sink>⟧.faults result ≡ 0 }
+    {
         HonestSink
     }
 }

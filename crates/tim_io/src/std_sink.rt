@@ -1,6 +1,5 @@
 //! Standard output.
-ghost use Rattle.std.specs.Prelude.{◌≡◌, ◌≤◌, None};
-ghost use Rattle.tim_io.specs.Causes.{Rose};
+ghost use Rattle.std.specs.Prelude.{◌≡◌, None};
 
 use crate::sink::{Failed, Sink};
 

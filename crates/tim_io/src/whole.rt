@@ -1,5 +1,5 @@
 //! Whole files, and whole texts.
-ghost use Rattle.std.specs.Prelude.{◌≡◌, ℕ, ◌<◌, ◌≤◌, length, take, IsErrOf, IfSome, OnOk, OnErr};
+ghost use Rattle.std.specs.Prelude.{ℕ, ◌<◌, ◌≤◌, length, take, IsErrOf, IfSome, OnOk, OnErr};
 ghost use Rattle.std.specs.Io.KnownBytes.{Appends};
 ghost use Rattle.tim_io.specs.Causes.{Rose};
 ghost use Rattle.tim_io.specs.Shelves.{OthersStay};

@@ -28,7 +28,7 @@ ChainsAreTheirSteps = (R : List RewriteRule) (ts : List Term) → Chain R ts ↔
 abbrev pub ChainsAppend : Type 0
 ChainsAppend = (R : List RewriteRule) (before after : List Term) (u : Term) → Chain R (before ++ u ∷ []) → Chain R (u ∷ after) → Chain R (before ++ u ∷ after)
 
--- a term leads to itself, and each chain is followed by a step
+-- a chain leads from each term to itself, from a term to what it steps to, and on from where another has led
 abbrev pub LeadsToItself : Type 0
 LeadsToItself = (R : List RewriteRule) (t : Term) → Leads R t t
 
