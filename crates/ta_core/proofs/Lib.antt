@@ -1,0 +1,5 @@
+pub mod Places
+pub mod Members
+pub mod Orders
+pub mod Keys
+pub mod RunsLaws

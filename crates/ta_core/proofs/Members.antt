@@ -1,0 +1,114 @@
+-- Members of a list that ascends.
+use Rattle.std.proofs.Common.{◌≡◌, ℕ, suc, zero, ◌<◌, ◌≤◌, ◌⊎◌, Bool, true, false, ◌||◌, ◌==◌, List, [], ◌∷◌, length, get_or, refl, sym, ap, ◌∙◌, subst, inl, inr, ⊎_elim, arith}
+use Rattle.std.specs.declared.cmp.Ordering.{Ordering}
+use Rattle.std.specs.declared.cmp.Ordering.TheVariants.{Less, Equal, Greater}
+use Rattle.std.specs.Ordering.{match_ordering, is_eq, eq_by_cmp, nat_cmp}
+use Rattle.std.specs.Cmp.{IsTotalOrder}
+use Rattle.std.specs.List.{list_any, Contains, All}
+use Rattle.std.specs.List.Sorted.{IsStrictlySortedBy}
+use Rattle.std.specs.BTreeSet.{insert_key}
+use Rattle.std.proofs.lemmas.Cmp.{tied_itself}
+use Rattle.std.proofs.lemmas.Map.Lookups.{CmpEqualImpliesEq}
+use Rattle.std.proofs.lemmas.Map.Keys.{below_from_sorted}
+use Rattle.std.proofs.lemmas.Map.Views.{tells_apart, exact_unsigned_eq}
+use Rattle.ta_core.specs.Orders.{has}
+
+module _ {X : Type 0} where
+  pub here : (x : X) (xs : List X) → Contains (x ∷ xs) x
+  here x xs = (0, omega arith, refl)
+
+  pub there : (x y : X) (xs : List X) → Contains xs y → Contains (x ∷ xs) y
+  there x y xs c = (suc c.0, omega (arith, c.1), c.2)
+
+  pub parts : (x y : X) (xs : List X) → Contains (x ∷ xs) y → (x ≡ y) ⊎ Contains xs y
+  parts x y xs c = go c.0 c.1 c.2
+    where
+      go : (k : ℕ) → k < length (x ∷ xs) → get_or (x ∷ xs) k y ≡ y → (x ≡ y) ⊎ Contains xs y
+      go zero l e = inl e
+      go (suc k) l e = inr (k, omega arith, e)
+
+  pub none : (y : X) → Contains [] y → ⊥
+  none y c = omega (arith, c.1)
+
+module _ {K : Type 0} {R : K → K → Ordering} (o : IsTotalOrder R) (exact : CmpEqualImpliesEq R) where
+  pub contains_from_has : (xs : List K) (k : K) → has R xs k ≡ true → Contains xs k
+  contains_from_has [] k e = absurd (cc)
+  contains_from_has (x ∷ xs) k e = go (contains_from_has xs k) (is_eq (R k x)) refl e
+    where
+      equal : (r : Ordering) → R k x ≡ r → is_eq r ≡ true → k ≡ x
+      equal Less h t = absurd (cc)
+      equal Equal h t = exact k x h
+      equal Greater h t = absurd (cc)
+
+      go : (has R xs k ≡ true → Contains xs k) → (b : Bool) → is_eq (R k x) ≡ b → (b || has R xs k) ≡ true → Contains (x ∷ xs) k
+      go rest true h t = subst (Contains (x ∷ xs)) (sym (equal (R k x) refl h)) (here x xs)
+      go rest false h t = there x k xs (rest t)
+
+  pub has_from_contains : (xs : List K) (k : K) → Contains xs k → has R xs k ≡ true
+  has_from_contains [] k c = absurd (none k c)
+  has_from_contains (x ∷ xs) k c = ⊎_elim (λ e. let h = subst (λ z. is_eq (R k z) ≡ true) (sym e) (ap is_eq (tied_itself o k)) in rw h) (λ t. or_true (is_eq (R k x)) (has_from_contains xs k t)) (parts x k xs c)
+    where
+      or_true : (a : Bool) → has R xs k ≡ true → (a || has R xs k) ≡ true
+      or_true true e = refl
+      or_true false e = e
+
+  pub inserted : (xs : List K) (k : K) → Contains (insert_key R xs k) k
+  inserted [] k = here k []
+  inserted (x ∷ xs) k =
+      elim (R k x) as (λ r. R k x ≡ r → Contains (match_ordering r (k ∷ x ∷ xs) (x ∷ xs) (x ∷ insert_key R xs k)) k) [
+        | Less ↦ λ e. here k (x ∷ xs)
+        | Equal ↦ λ e. subst (Contains (x ∷ xs)) (sym (exact k x e)) (here x xs)
+        | Greater ↦ λ e. there x k (insert_key R xs k) (inserted xs k)
+      ] refl
+
+  pub kept : (xs : List K) (k y : K) → Contains xs y → Contains (insert_key R xs k) y
+  kept [] k y c = absurd (none y c)
+  kept (x ∷ xs) k y c =
+      elim (R k x) as (λ r. Contains (match_ordering r (k ∷ x ∷ xs) (x ∷ xs) (x ∷ insert_key R xs k)) y) [
+        | Less ↦ there k y (x ∷ xs) c
+        | Equal ↦ c
+        | Greater ↦ ⊎_elim (λ e. subst (Contains (x ∷ insert_key R xs k)) e (here x (insert_key R xs k))) (λ t. there x y (insert_key R xs k) (kept xs k y t)) (parts x y xs c)
+      ]
+
+  pub was : (xs : List K) (k y : K) → Contains (insert_key R xs k) y → Contains xs y ⊎ (k ≡ y)
+  was [] k y c = ⊎_elim (λ e. inr e) (λ t. inl t) (parts k y [] c)
+  was (x ∷ xs) k y c =
+      (elim (R k x) as (λ r. Contains (match_ordering r (k ∷ x ∷ xs) (x ∷ xs) (x ∷ insert_key R xs k)) y → Contains (x ∷ xs) y ⊎ (k ≡ y)) [
+        | Less ↦ λ c. ⊎_elim (λ e. inr e) (λ t. inl t) (parts k y (x ∷ xs) c)
+        | Equal ↦ λ c. inl c
+        | Greater ↦ λ c. ⊎_elim (λ e. inl (subst (Contains (x ∷ xs)) e (here x xs))) (λ t. ⊎_elim (λ i. inl (there x y xs i)) (λ e. inr e) (was xs k y t)) (parts x y (insert_key R xs k) c)
+      ]) c
+
+  pub length_new : (xs : List K) (k : K) → has R xs k ≡ false → length (insert_key R xs k) ≡ suc (length xs)
+  length_new [] k e = refl
+  length_new (x ∷ xs) k e =
+      elim (R k x) as (λ r. (is_eq r || has R xs k) ≡ false → length (match_ordering r (k ∷ x ∷ xs) (x ∷ xs) (x ∷ insert_key R xs k)) ≡ suc (suc (length xs))) [
+        | Less ↦ λ h. refl
+        | Equal ↦ λ h. absurd (cc)
+        | Greater ↦ λ h. ap suc (length_new xs k h)
+      ] e
+
+-- numbers below n that rise are at most n
+at_least : (xs : List ℕ) (k : ℕ) → IsStrictlySortedBy nat_cmp xs → k < length xs → k ≤ get_or xs k 0
+at_least xs zero s l = omega arith
+at_least xs (suc k) s l = omega (arith, at_least xs k s (omega arith), below_from_sorted xs k (suc k) 0 s (omega arith) l)
+
+pub few_below : (xs : List ℕ) (n : ℕ) → IsStrictlySortedBy nat_cmp xs → All (λ q. q < n) xs → length xs ≤ n
+few_below xs n s a = go (length xs) refl
+  where
+    go : (m : ℕ) → length xs ≡ m → length xs ≤ n
+    go zero e = omega arith
+    go (suc m) e = omega (arith, at_least xs m s (omega arith), a m 0 (omega arith))
+
+-- an equality that holds where the order answers `Equal`
+pub same_from_cmp : {X : Type 0} {R : X → X → Ordering} {E : X → X → Bool} → ((x y : X) → E x y ≡ eq_by_cmp R x y) → CmpEqualImpliesEq R → (x y : X) → E x y ≡ true → x ≡ y
+same_from_cmp {R = R} ties exact x y e = tells_apart exact x y (sym (ties x y) ∙ e)
+
+-- what a search by equality has found
+pub found : (xs : List ℕ) (q : ℕ) (r : Bool) → r ≡ list_any (λ y. y == q) xs → r ≡ true → Contains xs q
+found [] q r e t = absurd (cc)
+found (x ∷ xs) q r e t = go (found xs q (list_any (λ y. y == q) xs) refl) (x == q) refl (sym e ∙ t)
+  where
+    go : (list_any (λ y. y == q) xs ≡ true → Contains xs q) → (b : Bool) → (x == q) ≡ b → (b || list_any (λ y. y == q) xs) ≡ true → Contains (x ∷ xs) q
+    go rest true h u = subst (Contains (x ∷ xs)) (exact_unsigned_eq x q h) (here x xs)
+    go rest false h u = there x q xs (rest u)

@@ -1,0 +1,24 @@
+use Rattle.std.proofs.Common.{ap}
+use Rattle.ta_core.specs.TreeAutomaton.{TreeAutomaton, IsTransOf}
+use Rattle.ta_core.proofs.Keys.{all_after}
+use Rattle.ta_core.proofs.Orders.{trans_exact}
+use Rattle.ta_core.proofs.automaton.Automaton.add_all_trans.Goals as goal
+
+pub add_all-requires : goal.add_all-requires
+add_all-requires c = trans_exact
+
+pub invariant_of-self : goal.invariant_of-self
+invariant_of-self c =
+    let i = c.self.inside in
+    let e = c.add_all.ensures in
+    let states = ap (λ (A : TreeAutomaton). A.states) c.self.view_is in
+    record {
+      few = c.self.invariant.few;
+      below = c.self.invariant.below;
+      finals = c.self.invariant.finals;
+      trans = all_after (IsTransOf i.states) i.trans c.into_vec.result.items c.add_all.new.self c.add_all.result e.members e.err c.self.invariant.trans (rw (states, c.into_vec.ensures) c.requires);
+      eps = c.self.invariant.eps;
+    }
+
+pub returns-clause-members : goal.returns-clause-members
+returns-clause-members c = rw (← c.into_vec.ensures, ← c.self.view_is) c.add_all.ensures.members

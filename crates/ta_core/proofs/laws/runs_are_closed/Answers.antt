@@ -1,0 +1,5 @@
+use Rattle.ta_core.proofs.RunsLaws.{runs_closed}
+use Rattle.ta_core.proofs.laws.runs_are_closed.Goals as goal
+
+pub returns : goal.returns
+returns c = runs_closed

@@ -1,0 +1,5 @@
+use Rattle.ta_core.proofs.RunsLaws.{run_ends}
+use Rattle.ta_core.proofs.laws.runs_end_in_states.Goals as goal
+
+pub returns : goal.returns
+returns c A sound x q r = run_ends sound r

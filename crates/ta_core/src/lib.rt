@@ -1,0 +1,24 @@
+//! The core of tree automata: transitions, automata and what a run of one is (TATA, section 1.1).
+//!
+//! An automaton keeps its states, final states, transitions and epsilon transitions in ascending lists. Contracts see
+//! it as these lists and the number that the next state gets (`TreeAutomaton`), and say what it accepts by runs.
+#![tactic(auto)]
+
+mod args;
+mod automaton;
+pub mod laws;
+mod map;
+mod options;
+mod sorted;
+mod spec;
+mod trans;
+
+pub use args::Args;
+pub use automaton::{Automaton, MAX_STATES, StateError};
+pub use map::Map;
+pub use options::Options;
+pub use spec::Spec;
+pub use trans::Trans;
+
+#[cfg(test)]
+mod tests;

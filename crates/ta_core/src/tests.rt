@@ -1,0 +1,194 @@
+//! What no clause says: that each call succeeds with ample memory, on lists worked out by hand.
+ghost use Rattle.std.specs.Prelude.{All, Contains, IsTrue};
+ghost use Rattle.ta_core.specs.TreeAutomaton.{IsTransOf};
+
+use crate::{Args, Automaton, Map, Options, StateError, Trans};
+use ranked_terms::Seq;
+use std::alloc::{AllocError, Global};
+use std::test::Fail;
+
+// The states 0, 1 and 2.
+fn three_states(alloc: Global) -> Result<Automaton, AllocError> {
+    Automaton::with_states(alloc, 3, &[0, 1, 2])
+}
+
+// The state 5, and one number left.
+fn nearly_full(alloc: Global) -> Result<Automaton, AllocError> {
+    Automaton::with_states(alloc, 16383, &[5])
+}
+
+// Whether the number is a state, and whether each of the numbers is.
+fn is_state(states: &[u32], number: u32) -> bool
+    ensures { IsTrue result → Contains states.now number }
+{
+    states.contains(&number)
+}
+
+fn are_states(states: &[u32], numbers: &[u32]) -> bool
+    ensures { IsTrue result → All (Contains states.now) numbers.now }
+{
+    for number in numbers {
+        if !is_state(states, *number) {
+            return false;
+        }
+    }
+    true
+}
+
+// Whether the transition's states are states.
+fn is_trans_of(states: &[u32], t: &Trans) -> bool
+    ensures { IsTrue result → IsTransOf states.now t.now }
+{
+    are_states(states, t.args.as_slice()) && is_state(states, t.to)
+}
+
+fn are_trans_of(states: &[u32], all: &[Trans]) -> bool
+    ensures { IsTrue result → All (IsTransOf states.now) all.now }
+{
+    for t in all {
+        if !is_trans_of(states, t) {
+            return false;
+        }
+    }
+    true
+}
+
+// The calls that ask for states, each after a test that they are there.
+fn add_trans(automaton: &mut Automaton, sym: u32, args: &[u32], to: u32) -> Result<bool, Fail> {
+    if are_states(automaton.states(), args) && is_state(automaton.states(), to) {
+        return Ok(automaton.add_trans(sym, args, to)?);
+    }
+    Err("no such state".into())
+}
+
+fn add_eps(automaton: &mut Automaton, from: u32, to: u32) -> Result<bool, Fail> {
+    if is_state(automaton.states(), from) && is_state(automaton.states(), to) {
+        return Ok(automaton.add_eps(from, to)?);
+    }
+    Err("no such state".into())
+}
+
+fn set_final(automaton: &mut Automaton, q: u32) -> Result<bool, Fail> {
+    if is_state(automaton.states(), q) {
+        return Ok(automaton.set_final(q)?);
+    }
+    Err("no such state".into())
+}
+
+fn set_all_final(automaton: &mut Automaton, alloc: Global, more: &[u32]) -> Result<(), Fail> {
+    if are_states(automaton.states(), more) {
+        return Ok(automaton.set_all_final(Seq::from_slice(alloc, more)?)?);
+    }
+    Err("no such state".into())
+}
+
+fn add_all_trans(automaton: &mut Automaton, more: Seq<Trans>) -> Result<(), Fail> {
+    if are_trans_of(automaton.states(), more.as_slice()) {
+        return Ok(automaton.add_all_trans(more)?);
+    }
+    Err("no such state".into())
+}
+
+// The transition from its number, its arguments and its target.
+fn trans(alloc: Global, sym: u32, args: &[u32], to: u32) -> Result<Trans, AllocError> {
+    let args = Args::from_slice(alloc, args)?;
+    Ok(Trans { sym, args, to })
+}
+
+#[test]
+fn numbers_states_from_zero(rt: HostRuntime) -> Result<(), Fail> {
+    let mut automaton = Automaton::new(rt.alloc());
+    for number in [0, 1, 2] {
+        assert!(rt; automaton.add_state() == Ok(number), "at {number}");
+    }
+    assert_eq!(rt; automaton.next(), 3);
+    assert_eq!(rt; automaton.states(), [0, 1, 2].as_slice());
+    Ok(())
+}
+
+#[test]
+fn is_full_at_the_greatest_number(rt: HostRuntime) -> Result<(), Fail> {
+    let mut automaton = nearly_full(rt.alloc())?;
+    for answer in [Ok(16383), Err(StateError::Full), Err(StateError::Full)] {
+        assert!(rt; automaton.add_state() == answer);
+    }
+    assert_eq!(rt; automaton.states(), [5, 16383].as_slice());
+    Ok(())
+}
+
+#[test]
+fn keeps_transitions_in_order(rt: HostRuntime) -> Result<(), Fail> {
+    let mut automaton = three_states(rt.alloc())?;
+    assert!(rt; add_trans(&mut automaton, 7, &[2, 0], 1)?);
+    assert!(rt; add_trans(&mut automaton, 7, &[1], 2)?);
+    assert!(rt; !add_trans(&mut automaton, 7, &[1], 2)?);
+    let want = [
+        trans(rt.alloc(), 7, &[1], 2)?,
+        trans(rt.alloc(), 7, &[2, 0], 1)?,
+    ];
+    assert_eq!(rt; automaton.trans(), want.as_slice());
+    Ok(())
+}
+
+#[test]
+fn adds_no_epsilon_transition_to_itself(rt: HostRuntime) -> Result<(), Fail> {
+    let mut automaton = three_states(rt.alloc())?;
+    assert!(rt; add_eps(&mut automaton, 2, 0)?);
+    assert!(rt; !add_eps(&mut automaton, 2, 0)?);
+    assert!(rt; !add_eps(&mut automaton, 1, 1)?);
+    assert_eq!(rt; automaton.eps(), [(2, 0)].as_slice());
+    Ok(())
+}
+
+#[test]
+fn keeps_final_states_in_order(rt: HostRuntime) -> Result<(), Fail> {
+    let mut automaton = three_states(rt.alloc())?;
+    assert!(rt; set_final(&mut automaton, 2)?);
+    assert!(rt; set_final(&mut automaton, 0)?);
+    assert!(rt; !set_final(&mut automaton, 2)?);
+    assert_eq!(rt; automaton.finals(), [0, 2].as_slice());
+    assert_eq!(rt; automaton.copy()?.finals(), [0, 2].as_slice());
+    Ok(())
+}
+
+#[test]
+fn adds_many_at_once(rt: HostRuntime) -> Result<(), Fail> {
+    let mut automaton = three_states(rt.alloc())?;
+    let _ = set_final(&mut automaton, 1)?;
+    set_all_final(&mut automaton, rt.alloc(), &[2, 0, 2, 1])?;
+    assert_eq!(rt; automaton.finals(), [0, 1, 2].as_slice());
+    Ok(())
+}
+
+#[test]
+fn adds_many_transitions_at_once(rt: HostRuntime) -> Result<(), Fail> {
+    let mut automaton = three_states(rt.alloc())?;
+    let mut more = Seq::new(rt.alloc());
+    more.push(trans(rt.alloc(), 4, &[1], 2)?)?;
+    more.push(trans(rt.alloc(), 3, &[], 0)?)?;
+    more.push(trans(rt.alloc(), 4, &[1], 2)?)?;
+    add_all_trans(&mut automaton, more)?;
+    let want = [
+        trans(rt.alloc(), 3, &[], 0)?,
+        trans(rt.alloc(), 4, &[1], 2)?,
+    ];
+    assert_eq!(rt; automaton.trans(), want.as_slice());
+    Ok(())
+}
+
+#[test]
+fn keeps_maps_and_options(rt: HostRuntime) -> Result<(), Fail> {
+    let map = Map::from_slice(rt.alloc(), &[3, 0, 3])?;
+    assert_eq!(rt; map.copy(rt.alloc())?.as_slice(), [3, 0, 3].as_slice());
+    let options = Options::default();
+    let numbers = [
+        options.rounds,
+        options.steps,
+        options.height,
+        options.terms,
+        options.pairs,
+        options.states,
+    ];
+    assert_eq!(rt; numbers, [20, 5, 4, 5000, 100000, 4096]);
+    Ok(())
+}
