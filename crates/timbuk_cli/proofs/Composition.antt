@@ -1,0 +1,165 @@
+-- From the parts of a bare text to its specification, and back.
+use Rattle.std.proofs.Common.{◌≡◌, ◌≢◌, ℕ, ◌<◌, List, [], ◌∷◌, ◌++◌, Option, Some, Result, Ok, Err, IfOk, length, false, refl, sym, ap, subst, ◌∙◌, arith, length-append}
+use Rattle.std.proofs.lemmas.List.{append-nil}
+use Rattle.std.specs.List.{All, Contains}
+use Rattle.ranked_terms.specs.Names.{Symbol, names_of}
+use Rattle.ta_core.specs.TreeAutomaton.{bare}
+use Rattle.ta_core.specs.declared.spec.Spec.{Spec}
+use Rattle.timbuk_lex.specs.Lexing.{lexed}
+use Rattle.timbuk_lex.specs.declared.lex.Ending.TheVariants.{Whole}
+use Rattle.timbuk_lex.specs.declared.lexeme.Lexeme.{Lexeme}
+use Rattle.timbuk_cli.specs.declared.reader.sections.Sections.{Sections}
+use Rattle.timbuk_cli.specs.Glyphs.{Text, Glyph, glyphs_of}
+use Rattle.timbuk_cli.specs.Source.{SymbolDeclaration, TransitionDeclaration, Source, symbols_in, variables_in, spelled_symbol, spelled_name, spelled_transition, spelled_all}
+use Rattle.timbuk_cli.specs.BareText.{BareText, IsAllowed, Declares, AreNewNames, IsAllowedTransition, Numbers, signature_of, has_comment}
+use Rattle.timbuk_cli.specs.Sections.{IsCut}
+use Rattle.timbuk_cli.specs.Reading.{ReadsSymbols, IsOneName}
+use Rattle.timbuk_cli.specs.Reads.{ReadsAutomaton, LacksAutomaton}
+use Rattle.timbuk_cli.specs.Parts.{PartsSpell, ReadsParts}
+use Rattle.timbuk_cli.proofs.Spelling.{IsDecodable, symbols-decodable, names-decodable}
+use Rattle.timbuk_cli.proofs.SourceCut.{SpellsWhole, whole_spells}
+
+-- ---- one spelling, one list of declarations
+
+longer : (xs ys : List Glyph) → 0 < length xs → [] ≡ xs ++ ys → ⊥
+longer xs ys some e = omega (arith, some, ap length e, length-append xs ys)
+
+pub same_all : {D : Type 0} (spelled : D → List Glyph) → IsDecodable spelled → (ds es : List D) → spelled_all spelled ds ≡ spelled_all spelled es → ds ≡ es
+same_all spelled h [] [] e = refl
+same_all spelled h [] (x ∷ es) e = absurd (longer (spelled x) (spelled_all spelled es) (h.some x) e)
+same_all spelled h (d ∷ ds) [] e = absurd (longer (spelled d) (spelled_all spelled ds) (h.some d) (sym e))
+same_all spelled h (d ∷ ds) (x ∷ es) e =
+    let p = h.same d x (spelled_all spelled ds) (spelled_all spelled es) e in
+    let rest = same_all spelled h ds es p.1 in
+    λ i. p.0 i ∷ rest i
+
+-- ---- a part that is refused has no declarations
+
+module _ (p : Sections) (source : Source) (allowed : IsAllowed source) (spell : PartsSpell p source) (signature : List Symbol) (reads : ReadsSymbols (glyphs_of p.ops.now) signature) where
+  same_signature : signature ≡ signature_of (symbols_in source)
+  same_signature = reads.numbered ∙ ap signature_of (same_all spelled_symbol symbols-decodable reads.declarations (symbols_in source) (sym reads.tokens ∙ spell.ops))
+
+  pub no_variables : (none : List Text) → none ≡ [] → ((names : List Text) → AreNewNames (names_of signature ++ none) 1024 names → glyphs_of p.vars.now ≢ spelled_all spelled_name names) → ⊥
+  no_variables none is unread =
+      let taken : names_of (signature_of (symbols_in source)) ≡ names_of signature ++ none = sym (ap (λ ns. names_of signature ++ ns) is ∙ append-nil (names_of signature) ∙ ap names_of same_signature) in
+      unread (variables_in source) (subst (λ ns. AreNewNames ns 1024 (variables_in source)) taken allowed.variables) spell.vars
+
+  module _ (vars : List Text) (vars_are : glyphs_of p.vars.now ≡ spelled_all spelled_name vars) where
+    same_variables : vars ≡ variables_in source
+    same_variables = same_all spelled_name names-decodable vars (variables_in source) (sym vars_are ∙ spell.vars)
+
+    pub no_states : ((names : List Text) → AreNewNames (names_of signature ++ vars) 16384 names → glyphs_of p.states.now ≢ spelled_all spelled_name names) → ⊥
+    no_states unread =
+        let taken : names_of (signature_of (symbols_in source)) ++ variables_in source ≡ names_of signature ++ vars = λ i. names_of (sym same_signature i) ++ sym same_variables i in
+        unread source.states (subst (λ ns. AreNewNames ns 16384 source.states) taken allowed.states) spell.states
+
+  pub no_automaton : (states : List Text) → glyphs_of p.states.now ≡ spelled_all spelled_name states → LacksAutomaton signature states p.finals.now p.transitions.now → ⊥
+  no_automaton states states_are lacks =
+      let same : states ≡ source.states = same_all spelled_name names-decodable states source.states (sym states_are ∙ spell.states) in
+      lacks.none source.finals source.transitions
+      (subst (λ ss. All (Contains ss) source.finals) (sym same) allowed.finals)
+      (subst (λ ss. All (IsAllowedTransition signature ss) source.transitions) (sym same) (subst (λ sig. All (IsAllowedTransition sig source.states) source.transitions) (sym same_signature) allowed.transitions))
+      spell.finals spell.transitions
+
+-- ---- parts that are read declare what was read
+
+abbrev read_source : List SymbolDeclaration → List Text → Text → Text → List Text → List Text → List TransitionDeclaration → Source
+read_source symbols variables system automaton states finals transitions = record {
+  ops = Some symbols;
+  vars = Some variables;
+  system = system;
+  automaton = automaton;
+  states = states;
+  finals = finals;
+  transitions = transitions;
+}
+
+pub parts_read : (p : Sections) (spec : Spec) (vars states none : List Text)
+    → IsOneName (glyphs_of p.system.now) → IsOneName (glyphs_of p.automaton.now)
+    → ReadsSymbols (glyphs_of p.ops.now) spec.signature
+    → none ≡ []
+    → (glyphs_of p.vars.now ≡ spelled_all spelled_name vars) × AreNewNames (names_of spec.signature ++ none) 1024 vars
+    → (glyphs_of p.states.now ≡ spelled_all spelled_name states) × AreNewNames (names_of spec.signature ++ vars) 16384 states
+    → ReadsAutomaton spec.signature states p.finals.now p.transitions.now spec.initial
+    → spec.vars ≡ vars → spec.rules ≡ [] → spec.equations ≡ [] → spec.entries ≡ [] → spec.extra ≡ 0 → spec.approximated ≡ false → spec.forbidden ≡ bare 0 []
+    → ReadsParts p spec
+parts_read p spec vars states none system automaton symbols is variables named reads vars_are rules equations entries extra approximated forbidden =
+    let source = read_source symbols.declarations vars system.name automaton.name states reads.names reads.declarations in
+    let taken : names_of spec.signature ++ none ≡ names_of (signature_of symbols.declarations) = ap (λ ns. names_of spec.signature ++ ns) is ∙ append-nil (names_of spec.signature) ∙ ap names_of symbols.numbered in
+    record {
+      source = source;
+      spelled = record {
+        ops = symbols.tokens;
+        vars = variables.0;
+        system = system.token;
+        automaton = automaton.token;
+        states = named.0;
+        finals = reads.spelled_finals;
+        transitions = reads.spelled_transitions;
+      };
+      allowed = record {
+        titles = (system.named, automaton.named);
+        symbols = symbols.allowed;
+        variables = subst (λ ns. AreNewNames ns 1024 vars) taken variables.1;
+        states = subst (λ sig. AreNewNames (names_of sig ++ vars) 16384 states) symbols.numbered named.1;
+        finals = reads.are_states;
+        transitions = subst (λ sig. All (IsAllowedTransition sig states) reads.declarations) symbols.numbered reads.are_allowed;
+      };
+      declares = record {
+        signature = symbols.numbered;
+        vars = vars_are;
+        rules = rules;
+        equations = equations;
+        entries = entries;
+        extra = extra;
+        approximated = approximated;
+        initial = subst (λ sig. Numbers sig states reads.names reads.declarations spec.initial) symbols.numbered reads.numbers;
+        forbidden = forbidden;
+      };
+    }
+
+-- ---- declarations that differ in what is left out alone
+
+module _ (a b : Source) (symbols : symbols_in a ≡ symbols_in b) (variables : variables_in a ≡ variables_in b) (system : a.system ≡ b.system) (automaton : a.automaton ≡ b.automaton)
+    (states : a.states ≡ b.states) (finals : a.finals ≡ b.finals) (transitions : a.transitions ≡ b.transitions) where
+  same_allowed : IsAllowed b → IsAllowed a
+  same_allowed h = record {
+    titles = rw (system, automaton) h.titles;
+    symbols = rw symbols h.symbols;
+    variables = rw (symbols, variables) h.variables;
+    states = rw (symbols, variables, states) h.states;
+    finals = rw (states, finals) h.finals;
+    transitions = rw (symbols, states, transitions) h.transitions;
+  }
+
+  same_declares : (spec : Spec) → Declares b spec → Declares a spec
+  same_declares spec h = record {
+    signature = h.signature ∙ ap signature_of (sym symbols);
+    vars = h.vars ∙ sym variables;
+    rules = h.rules;
+    equations = h.equations;
+    entries = h.entries;
+    extra = h.extra;
+    approximated = h.approximated;
+    initial = rw (symbols, states, finals, transitions) h.initial;
+    forbidden = h.forbidden;
+  }
+
+-- the parts of a text without comments that is cut whole are a bare text
+pub bare_from_parts : (bytes : List ℕ) (lexemes : List Lexeme) (p : Sections) (spec : Spec) → has_comment bytes ≡ false → (lexed bytes).ending ≡ Whole → lexemes ≡ (lexed bytes).tokens → IsCut lexemes p → ReadsParts p spec → BareText bytes spec
+bare_from_parts bytes lexemes p spec plain whole are cut parts =
+    let s = parts.source in
+    let w = whole_spells lexemes p (symbols_in s) (variables_in s) s.system s.automaton s.states s.finals s.transitions cut parts.spelled.ops parts.spelled.vars parts.spelled.system parts.spelled.automaton parts.spelled.states parts.spelled.finals parts.spelled.transitions in
+    record {
+      source = w.source;
+      plain = plain;
+      whole = whole;
+      tokens = ap glyphs_of (sym are) ∙ w.tokens;
+      allowed = same_allowed w.source s w.symbols_are w.variables_are w.system_is w.automaton_is w.states_are w.finals_are w.transitions_are parts.allowed;
+      declares = same_declares w.source s w.symbols_are w.variables_are w.system_is w.automaton_is w.states_are w.finals_are w.transitions_are spec parts.declares;
+    }
+
+-- a fact of each answer from another
+pub on_ok : {T E : Type 0} (P Q : T → Type 0) → ((x : T) → P x → Q x) → (r : Result T E) → IfOk r P → IfOk r Q
+on_ok P Q f (Ok x) h = f x h
+on_ok P Q f (Err e) h = tt

@@ -1,0 +1,136 @@
+-- The declarations of a text are bodies below section words, and where they are allowed no section goes on into the next.
+use Rattle.std.proofs.Common.{◌≡◌, ℕ, zero, suc, Bool, true, false, List, [], ◌∷◌, ◌++◌, length, Option, Some, None, unwrap_or, option_map, refl, sym, ap, subst, ◌∙◌, true≢false}
+use Rattle.std.specs.Prelude.{All, Contains, codes}
+use Rattle.std.specs.List.{list_all, list_any}
+use Rattle.std.specs.Str.{bytes_eq}
+use Rattle.std.specs.Char.{is_ascii_digit}
+use Rattle.std.proofs.lemmas.List.Elements.{All-head, All-tail, All-contains, All-weaker}
+use Rattle.std.proofs.lemmas.Option.{option_and_then_some}
+use Rattle.std.proofs.lemmas.Slice.Eq.{bytes_eq-Decides}
+use Rattle.ranked_terms.specs.Names.{number_of, arity_of, name_of}
+use Rattle.ranked_terms.proofs.SignatureLaws.{name_of-number_of}
+use Rattle.timbuk_cli.specs.Vocabulary.{is_reserved, section_words, closed_words, IsName}
+use Rattle.timbuk_cli.specs.Glyphs.{Text, Glyph, word, mark}
+use Rattle.timbuk_cli.specs.Source.{SymbolDeclaration, TransitionDeclaration, Source, symbols_in, variables_in, spelled_symbol, spelled_more, spelled_args, spelled_name, spelled_transition, spelled_all, spelled}
+use Rattle.timbuk_cli.specs.BareText.{IsArity, IsAllowedTransition, IsAllowed, signature_of}
+use Rattle.timbuk_cli.specs.Sections.{IsBody, Bodies, AreBodies, assembled}
+use Rattle.timbuk_cli.proofs.SectionLaws.{neither, IsBody-append, IsBody-word}
+
+-- what stands below each section word
+abbrev pub bodies_of : Source → Bodies
+bodies_of source = record {
+  ops = option_map (spelled_all spelled_symbol) source.ops;
+  vars = option_map (spelled_all spelled_name) source.vars;
+  system = word source.system ∷ [];
+  automaton = word source.automaton ∷ [];
+  states = spelled_all spelled_name source.states;
+  finals = spelled_all spelled_name source.finals;
+  transitions = spelled_all spelled_transition source.transitions;
+}
+
+pub spelled-assembled : (source : Source) → spelled source ≡ assembled (bodies_of source)
+spelled-assembled source = refl
+
+-- ---- words that are not reserved
+
+-- digits are none of these words, since none of these is all digits
+no_digits_by : (w : Text) (ws : List Text) (text : Text) (b : Bool) → bytes_eq w text ≡ b → list_all is_ascii_digit w ≡ false → list_all is_ascii_digit text ≡ true → list_any (λ x. bytes_eq x text) ws ≡ false → list_any (λ x. bytes_eq x text) (w ∷ ws) ≡ false
+no_digits_by w ws text true e none all rest =
+    let same : w ≡ text = (bytes_eq-Decides w text).0 e in
+    absurd (true≢false (sym all ∙ (ap (list_all is_ascii_digit) (sym same) ∙ none)))
+no_digits_by w ws text false e none all rest = rw e rest
+
+no_digits : (ws : List Text) (text : Text) → list_any (list_all is_ascii_digit) ws ≡ false → list_all is_ascii_digit text ≡ true → list_any (λ w. bytes_eq w text) ws ≡ false
+no_digits [] text none all = refl
+no_digits (w ∷ ws) text none all =
+    let parts = neither (list_all is_ascii_digit w) (list_any (list_all is_ascii_digit) ws) none in
+    no_digits_by w ws text (bytes_eq w text) refl parts.0 all (no_digits ws text parts.1 all)
+
+-- each reserved word begins with a capital letter
+pub arity_free : (text : Text) → IsArity text → is_reserved text ≡ false
+unfolding is_reserved
+arity_free text h =
+    rw (no_digits section_words text refl h.digits) (no_digits closed_words text refl h.digits)
+
+-- ---- bodies
+
+pub spelled_all-free : {D : Type 0} (spelled : D → List Glyph) (P : D → Type 0) → ((d : D) → P d → IsBody (spelled d)) → (ds : List D) → All P ds → IsBody (spelled_all spelled ds)
+spelled_all-free spelled P each [] all = refl
+spelled_all-free spelled P each (d ∷ ds) all =
+    IsBody-append (spelled d) (spelled_all spelled ds) (each d (All-head P d ds all)) (spelled_all-free spelled P each ds (All-tail P d ds all))
+
+pub name_free : (name : Text) → IsName name → IsBody (spelled_name name)
+name_free name h = IsBody-word name [] h.free refl
+
+pub symbol_free : (d : SymbolDeclaration) → IsName d.name → IsArity d.arity → IsBody (spelled_symbol d)
+symbol_free d n a = IsBody-word d.name (mark (codes ":") ∷ word d.arity ∷ []) n.free (IsBody-word d.arity [] (arity_free d.arity a) refl)
+
+more_free : (args : List Text) → All IsName args → IsBody (spelled_more args)
+more_free [] all = refl
+more_free (a ∷ args) all = IsBody-word a (spelled_more args) (All-head IsName a args all).free (more_free args (All-tail IsName a args all))
+
+args_free : (args : List Text) → All IsName args → IsBody (spelled_args args)
+args_free [] all = refl
+args_free (a ∷ args) all = IsBody-word a (spelled_more args) (All-head IsName a args all).free (more_free args (All-tail IsName a args all))
+
+pub transition_free : (d : TransitionDeclaration) → IsName d.head → All IsName d.args → IsName d.target → IsBody (spelled_transition d)
+transition_free d h a t =
+    IsBody-word d.head (spelled_args d.args ++ mark (codes "->") ∷ word d.target ∷ []) h.free
+    (IsBody-append (spelled_args d.args) (mark (codes "->") ∷ word d.target ∷ []) (args_free d.args a) (IsBody-word d.target [] t.free refl))
+
+-- ---- names that are used
+
+named : (ds : List SymbolDeclaration) (n : ℕ) (name : Text) → All (λ d. IsName d.name) ds → name_of (signature_of ds) n ≡ Some name → IsName name
+named [] n name all e = let no : None ≡ Some name = e in cc
+named (d ∷ ds) zero name all e = let same : d.name ≡ name = cc in subst IsName same (All-head (λ x. IsName x.name) d ds all)
+named (d ∷ ds) (suc n) name all e = named ds n name (All-tail (λ x. IsName x.name) d ds all) e
+
+-- a name that has a number is a declared name
+pub numbered_name : (ds : List SymbolDeclaration) (n : ℕ) (name : Text) → All (λ d. IsName d.name) ds → number_of (signature_of ds) name ≡ Some n → IsName name
+numbered_name ds n name all e = named ds n name all (name_of-number_of (signature_of ds) name n e)
+
+-- the head of an allowed transition is a name
+pub head_name : (ds : List SymbolDeclaration) (states : List Text) (t : TransitionDeclaration) → All (λ d. IsName d.name) ds → IsAllowedTransition (signature_of ds) states t → IsName t.head
+head_name ds states t all h =
+    option_and_then_some (arity_of (signature_of ds)) (number_of (signature_of ds) t.head) (length t.args) h.head
+    (λ n known arity. numbered_name ds n t.head all known)
+
+-- so are its arguments and its target
+pub state_name : (states : List Text) (name : Text) → All IsName states → Contains states name → IsName name
+state_name states name all h = All-contains IsName states name all h
+
+pub state_names : (states names : List Text) → All IsName states → All (Contains states) names → All IsName names
+state_names states names all used = All-weaker (Contains states) IsName (λ name h. state_name states name all h) names used
+
+pub allowed_transition_free : (ds : List SymbolDeclaration) (states : List Text) (t : TransitionDeclaration) → All (λ d. IsName d.name) ds → All IsName states → IsAllowedTransition (signature_of ds) states t → IsBody (spelled_transition t)
+allowed_transition_free ds states t symbols all h =
+    transition_free t (head_name ds states t symbols h) (state_names states t.args all h.args) (state_name states t.target all h.target)
+
+-- ---- the parts
+
+pub names_free : (names : List Text) → All IsName names → IsBody (spelled_all spelled_name names)
+names_free names all = spelled_all-free spelled_name IsName name_free names all
+
+pub symbols_free : (ds : List SymbolDeclaration) → All (λ d. IsName d.name) ds → All (λ d. IsArity d.arity) ds → IsBody (spelled_all spelled_symbol ds)
+symbols_free ds names arities =
+    spelled_all-free spelled_symbol (λ d. IsName d.name × IsArity d.arity) (λ d h. symbol_free d h.0 h.1) ds (λ k d h. (names k d h, arities k d h))
+
+pub transitions_free : (ds : List SymbolDeclaration) (states : List Text) (ts : List TransitionDeclaration) → All (λ d. IsName d.name) ds → All IsName states → All (IsAllowedTransition (signature_of ds) states) ts → IsBody (spelled_all spelled_transition ts)
+transitions_free ds states ts symbols all allowed =
+    spelled_all-free spelled_transition (IsAllowedTransition (signature_of ds) states) (λ t h. allowed_transition_free ds states t symbols all h) ts allowed
+
+optional_free : {D : Type 0} (spelled : D → List Glyph) (o : Option (List D)) → IsBody (spelled_all spelled (unwrap_or o [])) → IsBody (unwrap_or (option_map (spelled_all spelled) o) [])
+optional_free spelled None h = refl
+optional_free spelled (Some ds) h = h
+
+-- the bodies of allowed declarations
+pub bodies_of-free : (source : Source) → IsAllowed source → AreBodies (bodies_of source)
+bodies_of-free source h = record {
+  ops = optional_free spelled_symbol source.ops (symbols_free (symbols_in source) h.symbols.names h.symbols.arities);
+  vars = optional_free spelled_name source.vars (names_free (variables_in source) h.variables.names);
+  system = name_free source.system h.titles.0;
+  automaton = name_free source.automaton h.titles.1;
+  states = names_free source.states h.states.names;
+  finals = names_free source.finals (state_names source.states source.finals h.states.names h.finals);
+  transitions = transitions_free (symbols_in source) source.states source.transitions h.symbols.names h.states.names h.transitions;
+}

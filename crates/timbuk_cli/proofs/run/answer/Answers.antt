@@ -1,0 +1,13 @@
+use Rattle.std.proofs.Common.{◌≡◌, rules, List, ℕ, string_bytes, codes}
+use Rattle.timbuk_cli.specs.Output.{Judges, line}
+use Rattle.timbuk_cli.specs.declared.status.Status.TheVariants.{Unreachable, BadSpec}
+use Rattle.timbuk_cli.proofs.Verdicts.{said}
+use Rattle.timbuk_cli.proofs.run.answer.Goals as goal
+
+pub returns-clause-says : goal.returns-clause-says
+returns-clause-says g c =
+    let judged : Judges c.in-Ok.bytes c.in_ok-verdict.verdict = search rules in
+    let written : string_bytes c.in_ok-from_str.field-0 ≡ c.verdict_line.result.now = search rules in
+    said c.args.name.now _ _ _ c.in-Ok.bytes c.in_ok-verdict.verdict c.in-Ok.ensures.told judged
+    (λ is. rw written (c.verdict_line.ensures.unreachable is))
+    (λ is. rw written (c.verdict_line.ensures.bad_spec is))

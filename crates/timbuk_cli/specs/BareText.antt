@@ -1,0 +1,116 @@
+-- Which declarations are allowed, what they number, and which bytes are a bare text. This project's own format.
+use Rattle.std.specs.Prelude.{◌≡◌, ℕ, ◌+◌, ◌-◌, ◌*◌, ◌≤◌, ◌↔◌, ◌==◌, ◌&&◌, ◌||◌, Bool, false, List, [], ◌∷◌, ◌++◌, Option, Some, None, IsTrue, All, Contains, map, fold, length, slice_index}
+use Rattle.std.specs.List.{list_all, IsDistinct, position_or_len, range_with_len}
+use Rattle.std.specs.List.Sorted.{IsStrictlySortedBy}
+use Rattle.std.specs.Ordering.{nat_cmp}
+use Rattle.std.specs.declared.cmp.Ordering.{Ordering}
+use Rattle.std.specs.Option.{option_and_then}
+use Rattle.std.specs.Str.{bytes_eq}
+use Rattle.std.specs.Char.{is_ascii_digit}
+use Rattle.ranked_terms.specs.Names.{Symbol, names_of, number_of, arity_of}
+use Rattle.ta_core.specs.TreeAutomaton.{TreeAutomaton, bare, trans_of, trans_cmp}
+use Rattle.ta_core.specs.declared.trans.Trans.{Trans}
+use Rattle.ta_core.specs.declared.spec.Spec.{Spec}
+use Rattle.timbuk_lex.specs.Lexing.{lexed}
+use Rattle.timbuk_lex.specs.declared.lex.Ending.TheVariants.{Whole}
+use Rattle.timbuk_cli.specs.Vocabulary.{IsName}
+use Rattle.timbuk_cli.specs.Glyphs.{Text, glyphs_of}
+use Rattle.timbuk_cli.specs.Source.{SymbolDeclaration, TransitionDeclaration, Source, symbols_in, variables_in, spelled}
+
+-- ---- what is declared
+
+-- the number that digits spell
+abbrev pub value_of : Text → ℕ
+value_of digits = fold (λ n d. n * 10 + (d - 48)) 0 digits
+
+abbrev pub signature_of : List SymbolDeclaration → List Symbol
+signature_of declarations = map (λ d. (d.name, value_of d.arity)) declarations
+
+abbrev pub symbol_names : Source → List Text
+symbol_names source = names_of (signature_of (symbols_in source))
+
+-- ---- what is allowed
+
+-- digits, leading zeros among them, of a number that is at most 16
+pub record IsArity (text : Text) : Type 0 where
+  pub digits : IsTrue (list_all is_ascii_digit text)
+  pub short : length text ≤ 255
+  pub small : value_of text ≤ 16
+
+-- the head is a symbol with as many arguments as its arity says; the arguments and the target are states
+pub record IsAllowedTransition (signature : List Symbol) (states : List Text) (t : TransitionDeclaration) : Type 0 where
+  pub head : option_and_then (arity_of signature) (number_of signature t.head) ≡ Some (length t.args)
+  pub args : All (Contains states) t.args
+  pub target : Contains states t.target
+
+-- symbols that may be declared: names, each once, with small arities
+pub record AreSymbols (declarations : List SymbolDeclaration) : Type 0 where
+  pub names : All (λ d. IsName d.name) declarations
+  pub arities : All (λ d. IsArity d.arity) declarations
+  pub distinct : IsDistinct bytes_eq (names_of (signature_of declarations))
+  pub few : length declarations ≤ 4096
+
+-- at most so many names, each once, that may be declared beside those that are taken
+pub record AreNewNames (taken : List Text) (limit : ℕ) (new : List Text) : Type 0 where
+  pub names : All IsName new
+  pub distinct : IsDistinct bytes_eq (taken ++ new)
+  pub few : length new ≤ limit
+
+-- names that are names, each declared once; small enough; and each used as what it is
+pub record IsAllowed (source : Source) : Type 0 where
+  pub titles : IsName source.system × IsName source.automaton
+  pub symbols : AreSymbols (symbols_in source)
+  pub variables : AreNewNames (symbol_names source) 1024 (variables_in source)
+  pub states : AreNewNames (symbol_names source ++ variables_in source) 16384 source.states
+  pub finals : All (Contains source.states) source.finals
+  pub transitions : All (IsAllowedTransition (signature_of (symbols_in source)) source.states) source.transitions
+
+-- ---- what it numbers
+
+-- a name's place among names
+abbrev pub place_in : List Text → Text → ℕ
+place_in names name = position_or_len (bytes_eq name) names
+
+abbrev pub transition_of : List Symbol → List Text → TransitionDeclaration → Trans
+transition_of signature states t = trans_of (place_in (names_of signature) t.head) (map (place_in states) t.args) (place_in states t.target)
+
+-- each of ys once, in ascending order
+pub record IsAscendingSet {X : Type 0} (cmp : X → X → Ordering) (xs ys : List X) : Type 0 where
+  pub ascends : IsStrictlySortedBy cmp xs
+  pub members : (x : X) → Contains xs x ↔ Contains ys x
+
+-- the states are numbered in their order; a transition or a final state that stands twice counts once
+pub record Numbers (signature : List Symbol) (states finals : List Text) (transitions : List TransitionDeclaration) (automaton : TreeAutomaton) : Type 0 where
+  pub states_are : automaton.states ≡ range_with_len 0 (length states)
+  pub next_is : automaton.next ≡ length states
+  pub finals_are : IsAscendingSet nat_cmp automaton.finals (map (place_in states) finals)
+  pub trans_are : IsAscendingSet trans_cmp automaton.trans (map (transition_of signature states) transitions)
+  pub no_eps : automaton.eps ≡ []
+
+-- the spec that the declarations spell: no rule, equation or approximation, and nothing forbidden
+pub record Declares (source : Source) (spec : Spec) : Type 0 where
+  pub signature : spec.signature ≡ signature_of (symbols_in source)
+  pub vars : spec.vars ≡ variables_in source
+  pub rules : spec.rules ≡ []
+  pub equations : spec.equations ≡ []
+  pub entries : spec.entries ≡ []
+  pub extra : spec.extra ≡ 0
+  pub approximated : spec.approximated ≡ false
+  pub initial : Numbers (signature_of (symbols_in source)) source.states source.finals source.transitions spec.initial
+  pub forbidden : spec.forbidden ≡ bare 0 []
+
+-- ---- the text
+
+-- the bytes `(*` stand somewhere
+abbrev pub has_comment : List ℕ → Bool
+has_comment [] = false
+has_comment (b ∷ rest) = (b == 40 && slice_index rest 0 == 42) || has_comment rest
+
+-- The bytes are a bare text that spells this spec. Quoted texts have no place in a bare text, so where it has no `(*` it has no comment.
+pub record BareText (bytes : List ℕ) (spec : Spec) : Type 0 where
+  pub source : Source
+  pub plain : has_comment bytes ≡ false
+  pub whole : (lexed bytes).ending ≡ Whole
+  pub tokens : glyphs_of (lexed bytes).tokens ≡ spelled source
+  pub allowed : IsAllowed source
+  pub declares : Declares source spec

@@ -1,0 +1,12 @@
+pub mod Vocabulary
+pub mod Glyphs
+pub mod Source
+pub mod Sections
+pub mod BareText
+pub mod Words
+pub mod Output
+pub mod Codes
+pub mod NameTables
+pub mod Reading
+pub mod Parts
+pub mod Reads

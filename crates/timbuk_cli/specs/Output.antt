@@ -1,0 +1,76 @@
+-- What the program answers and writes, by its words and by what its file has. This project's own.
+use Rattle.std.specs.Prelude.{◌≡◌, ◌⊎◌, ℕ, ◌≤◌, ◌<◌, List, [], ◌∷◌, ◌++◌, Option, Some, None, IsSome, IfSome, length, take, codes}
+use Rattle.std.specs.Io.KnownBytes.{Appends, Keeps}
+use Rattle.ranked_terms.specs.declared.term.Term.{Term}
+use Rattle.ta_core.specs.declared.spec.Spec.{Spec}
+use Rattle.ta_core.specs.Reachability.{Reachable, Forbidden}
+use Rattle.timbuk_cli.specs.Glyphs.{Text}
+use Rattle.timbuk_cli.specs.Words.{file_of}
+use Rattle.timbuk_cli.specs.BareText.{BareText}
+use Rattle.timbuk_cli.specs.declared.status.Status.{Status}
+use Rattle.timbuk_cli.specs.declared.status.Status.TheVariants.{Unreachable, BadWords, BadSpec, TooLong, ReadFault, WriteFault, Memory}
+
+-- the largest number of bytes of a specification
+abbrev pub limit : ℕ
+limit = 1048576
+
+-- ---- what is said of a file
+
+-- the bytes are a specification, and whatever is reachable by its rules, in whatever number of steps, is not forbidden
+pub record IsSafe (bytes : List ℕ) : Type 0 where
+  pub spec : Spec
+  pub text : BareText bytes spec
+  pub safe : (t : Term) → Reachable spec t → Forbidden spec t → ⊥
+
+-- the bytes are no specification
+abbrev pub IsNoSpec : List ℕ → Type 0
+IsNoSpec bytes = (spec : Spec) → BareText bytes spec → ⊥
+
+-- the status that the bytes of a file have
+abbrev pub Judges : List ℕ → Status → Type 0
+Judges bytes Unreachable = IsSafe bytes
+Judges bytes BadSpec = IsNoSpec bytes
+Judges bytes _ = ⊥
+
+abbrev pub line : Text → Text
+line text = text ++ 10 ∷ []
+
+-- A text and its status for the file of a name. `given` is what was told of its bytes; where nothing was told, the status rests on
+-- bytes that no clause knows. `rose` says that the file's count of faults rose.
+abbrev pub Says : Text → Option (List ℕ) → Type 0 → Text → Status → Type 0
+Says name given rose text Unreachable = IfSome given (λ bytes. (length bytes ≤ limit) × Judges bytes Unreachable) × (text ≡ line (codes "Verdict unreachable"))
+Says name given rose text BadSpec = IfSome given (λ bytes. (length bytes ≤ limit) × Judges bytes BadSpec) × (text ≡ line (codes "Bad specification"))
+Says name given rose text TooLong = IfSome given (λ bytes. limit < length bytes) × (text ≡ line (codes "Too long " ++ name))
+Says name given rose text ReadFault = rose × (text ≡ line (codes "Cannot read " ++ name))
+Says name given rose text _ = ⊥
+
+-- ---- what a run writes and answers
+
+abbrev pub usage : Text
+usage = codes "usage: timbuk complete FILE [OPTIONS] | check SPEC CERT | ta OP FILE [--limit N] | browse SPEC SCRIPT | sample N"
+
+-- a text and its status, by the words, by what was told of each name, and by the names whose counts rose
+abbrev pub Output : List Text → (Text → Option (List ℕ)) → (Text → Type 0) → Text → Status → Type 0
+Output words given rose text BadWords = (file_of words ≡ None) × (text ≡ line usage)
+Output words given rose text status = (name : Text) × (file_of words ≡ Some name) × Says name (given name) (rose name) text status
+
+-- a part of the text, from its front, was written
+abbrev pub AppendsPart : Option (List ℕ) → Option (List ℕ) → Text → Type 0
+AppendsPart old new text = (n : ℕ) × (n < length text) × Appends old new (take n text)
+
+-- what was written by the end of a run: the whole text of its status; at a fault of the output, a part of some text; at want of memory nothing
+abbrev pub Ran : List Text → (Text → Option (List ℕ)) → (Text → Type 0) → Type 0 → Option (List ℕ) → Option (List ℕ) → Status → Type 0
+Ran words given rose sink_rose old new Memory = IsSome (file_of words) × Keeps old new
+Ran words given rose sink_rose old new WriteFault = sink_rose × ((text : Text) × (status : Status) × Output words given rose text status × AppendsPart old new text)
+Ran words given rose sink_rose old new status = (text : Text) × Output words given rose text status × Appends old new text
+
+-- ---- the answer that the words and the contents name
+
+abbrev pub IsOrMemory : Status → Status → Type 0
+IsOrMemory status answer = (answer ≡ status) ⊎ (answer ≡ Memory)
+
+pub record Answers (words : List Text) (given : Text → Option (List ℕ)) (answer : Status) : Type 0 where
+  pub bad_words : file_of words ≡ None → answer ≡ BadWords
+  pub too_long : (name : Text) (bytes : List ℕ) → file_of words ≡ Some name → given name ≡ Some bytes → limit < length bytes → IsOrMemory TooLong answer
+  pub bad_spec : (name : Text) (bytes : List ℕ) → file_of words ≡ Some name → given name ≡ Some bytes → length bytes ≤ limit → IsNoSpec bytes → IsOrMemory BadSpec answer
+  pub unreachable : (name : Text) (bytes : List ℕ) (spec : Spec) → file_of words ≡ Some name → given name ≡ Some bytes → length bytes ≤ limit → BareText bytes spec → IsOrMemory Unreachable answer

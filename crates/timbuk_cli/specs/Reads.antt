@@ -1,0 +1,89 @@
+-- What the readers of declarations answer. This project's own.
+use Rattle.std.specs.Prelude.{◌≡◌, ◌≢◌, ℕ, List, [], ◌∷◌, ◌++◌, All, Contains, map, length, codes}
+use Rattle.ranked_terms.specs.Names.{Symbol}
+use Rattle.ta_core.specs.TreeAutomaton.{TreeAutomaton}
+use Rattle.timbuk_lex.specs.declared.lexeme.Lexeme.{Lexeme}
+use Rattle.timbuk_cli.specs.Glyphs.{Text, Glyph, word, mark, glyphs_of, IsToken}
+use Rattle.timbuk_cli.specs.Source.{TransitionDeclaration, spelled_name, spelled_transition, spelled_all}
+use Rattle.timbuk_cli.specs.BareText.{IsAllowedTransition, Numbers}
+
+-- ---- one declaration
+
+-- an allowed declaration is spelled, this value is what it means, and the rest follows
+pub record Reads {D V : Type 0} (spelled : D → List Glyph) (Allowed : D → Type 0) (meaning : D → V) (lexemes : List Lexeme) (value : V) (rest : List Lexeme) : Type 0 where
+  pub declaration : D
+  pub allowed : Allowed declaration
+  pub glyphs : glyphs_of lexemes ≡ spelled declaration ++ glyphs_of rest
+  pub is : value ≡ meaning declaration
+  pub tokens : All IsToken rest
+
+-- the tokens begin with no allowed declaration
+pub record Lacks {D : Type 0} (spelled : D → List Glyph) (Allowed : D → Type 0) (lexemes : List Lexeme) : Type 0 where
+  pub none : (declaration : D) (rest : List Glyph) → Allowed declaration → glyphs_of lexemes ≢ spelled declaration ++ rest
+
+-- ---- declarations one after another
+
+-- allowed declarations are spelled, these values are what they mean, and the rest follows
+pub record ReadsSome {D V : Type 0} (spelled : D → List Glyph) (Allowed : D → Type 0) (meaning : D → V) (lexemes : List Lexeme) (values : List V) (rest : List Lexeme) : Type 0 where
+  pub declarations : List D
+  pub allowed : All Allowed declarations
+  pub glyphs : glyphs_of lexemes ≡ spelled_all spelled declarations ++ glyphs_of rest
+  pub are : values ≡ map meaning declarations
+  pub tokens : All IsToken rest
+
+-- the tokens spell allowed declarations, and these values are what they mean
+pub record ReadsAll {D V : Type 0} (spelled : D → List Glyph) (Allowed : D → Type 0) (meaning : D → V) (lexemes : List Lexeme) (values : List V) : Type 0 where
+  pub declarations : List D
+  pub allowed : All Allowed declarations
+  pub glyphs : glyphs_of lexemes ≡ spelled_all spelled declarations
+  pub are : values ≡ map meaning declarations
+
+-- the tokens spell no list of allowed declarations
+pub record LacksAll {D : Type 0} (spelled : D → List Glyph) (Allowed : D → Type 0) (lexemes : List Lexeme) : Type 0 where
+  pub none : (declarations : List D) → All Allowed declarations → glyphs_of lexemes ≢ spelled_all spelled declarations
+
+-- ---- marks
+
+-- the tokens are this mark and the rest
+pub record FollowsMark (text : Text) (lexemes rest : List Lexeme) : Type 0 where
+  pub glyphs : glyphs_of lexemes ≡ mark text ∷ glyphs_of rest
+  pub tokens : All IsToken rest
+
+-- the tokens don't begin with this mark
+pub record LacksMark (text : Text) (lexemes : List Lexeme) : Type 0 where
+  pub none : (rest : List Glyph) → glyphs_of lexemes ≢ mark text ∷ rest
+
+-- ---- arguments
+
+-- a name behind a mark
+abbrev pub spelled_after : Text → Text → List Glyph
+spelled_after text name = mark text ∷ word name ∷ []
+
+-- an argument behind another one
+abbrev pub spelled_next : Text → List Glyph
+spelled_next = spelled_after (codes ",")
+
+-- so many states
+pub record AreArguments (states : List Text) (count : ℕ) (args : List Text) : Type 0 where
+  pub are_states : All (Contains states) args
+  pub so_many : length args ≡ count
+
+-- any text
+abbrev pub AnyText : Text → Type 0
+AnyText text = Unit {0}
+
+-- ---- the automaton
+
+-- the tokens spell allowed final states and transitions, which number this automaton
+pub record ReadsAutomaton (signature : List Symbol) (states : List Text) (finals transitions : List Lexeme) (automaton : TreeAutomaton) : Type 0 where
+  pub names : List Text
+  pub declarations : List TransitionDeclaration
+  pub spelled_finals : glyphs_of finals ≡ spelled_all spelled_name names
+  pub spelled_transitions : glyphs_of transitions ≡ spelled_all spelled_transition declarations
+  pub are_states : All (Contains states) names
+  pub are_allowed : All (IsAllowedTransition signature states) declarations
+  pub numbers : Numbers signature states names declarations automaton
+
+-- the tokens spell no allowed final states, or no allowed transitions
+pub record LacksAutomaton (signature : List Symbol) (states : List Text) (finals transitions : List Lexeme) : Type 0 where
+  pub none : (names : List Text) (declarations : List TransitionDeclaration) → All (Contains states) names → All (IsAllowedTransition signature states) declarations → glyphs_of finals ≡ spelled_all spelled_name names → glyphs_of transitions ≢ spelled_all spelled_transition declarations

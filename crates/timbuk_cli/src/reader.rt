@@ -1,0 +1,105 @@
+//! The reader of bare texts: specifications with one rewriting system without rules and one automaton.
+//!
+//! The text is cut into tokens (`timbuk_lex`), these at the section words (`sections`), and each part is read by a module of
+//! its own. Each byte and each token is looked at a bounded number of times; names are found by their hashes, and the
+//! automaton's lists are sorted once.
+ghost use Rattle.std.specs.Prelude.{◌≡◌, ◌<◌, ◌-◌, ◌^◌, IfOk, IsErrOf, length};
+ghost use Rattle.timbuk_cli.specs.Source.{Source};
+ghost use Rattle.timbuk_cli.specs.BareText.{BareText, IsAllowed};
+ghost use Rattle.timbuk_cli.specs.Sections.{AreTokens};
+ghost use Rattle.timbuk_cli.specs.Parts.{PartsSpell, ReadsParts};
+ghost use Rattle.timbuk_cli.specs.declared.reader.SpecError.TheVariants.{Memory};
+
+mod automaton;
+mod comment;
+mod front;
+mod names;
+mod sections;
+mod symbols;
+mod transition;
+
+use automaton::read_automaton;
+use comment::has_comment;
+use names::{NameTable, read_names, read_title};
+use ranked_terms::Seq;
+use sections::{Sections, cut};
+use std::alloc::{AllocError, Global};
+use symbols::read_symbols;
+use ta_core::{Automaton, Spec};
+use timbuk_lex::{Ending, lex_of};
+
+/// The largest number of variables that a text declares.
+const MAX_VARIABLES: usize = 1024;
+
+/// The largest number of states of an automaton.
+const MAX_STATES: usize = 16384;
+
+/// Why no specification was read.
+#[derive(Clone, Copy, Debug, PartialEq, Eq)]
+pub enum SpecError {
+    /// The bytes are no bare text.
+    Unread,
+    /// There is no memory.
+    Memory,
+}
+
+impl From<AllocError> for SpecError {
+    ghost from_gives = { λ _ e. e ≡ Memory };
+
+    fn from(_: AllocError) -> SpecError {
+        SpecError::Memory
+    }
+}
+
+/// The specification that the parts of a text declare. `Unread` exactly where they declare none.
+fn read_sections(alloc: Global, sections: &Sections) -> Result<Spec, SpecError>
+    requires { AreTokens sections.now }
+    ensures found { IfOk result (λ spec. ReadsParts sections.now spec) }
+    ensures unread { IsErrOf result SpecError.Unread → (source : Source) → IsAllowed source → PartsSpell sections.now source → ⊥ }
+{
+    if !read_title(sections.system) || !read_title(sections.automaton) {
+        return Err(SpecError::Unread);
+    }
+    let signature = read_symbols(alloc, sections.ops)?;
+    let none = NameTable::new(alloc);
+    let vars = read_names(alloc, sections.vars, &signature, &none, MAX_VARIABLES)?;
+    let states = read_names(alloc, sections.states, &signature, &vars, MAX_STATES)?;
+    let initial = read_automaton(
+        alloc,
+        &signature,
+        &states,
+        sections.finals,
+        sections.transitions,
+    )?;
+    Ok(Spec {
+        vars: vars.to_names(alloc)?,
+        signature,
+        rules: Seq::new(alloc),
+        equations: Seq::new(alloc),
+        entries: Seq::new(alloc),
+        extra: 0,
+        approximated: false,
+        initial,
+        forbidden: Automaton::new(alloc),
+    })
+}
+
+/// Reads a bare text: the specification that it spells. `Unread` exactly where the bytes are no bare text, and `Memory` at
+/// want of memory. The bytes are fewer than 4,294,967,295, so that the places of tokens fit their types.
+pub fn read_spec(alloc: Global, bytes: &[u8]) -> Result<Spec, SpecError>
+    requires { length bytes.now < 2 ^ 32 - 1 }
+    ensures found { IfOk result (λ spec. BareText bytes.now spec) }
+    ensures unread { IsErrOf result SpecError.Unread → (spec : _) → BareText bytes.now spec → ⊥ }
+{
+    if has_comment(bytes) {
+        return Err(SpecError::Unread);
+    }
+    let lexed = lex_of(alloc, bytes)?;
+    if lexed.ending != Ending::Whole {
+        return Err(SpecError::Unread);
+    }
+    let Some(sections) = cut(lexed.tokens.as_slice()) else {
+        return Err(SpecError::Unread);
+    };
+    read_sections(alloc, &sections)
+}

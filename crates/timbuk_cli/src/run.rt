@@ -1,0 +1,113 @@
+//! The top call.
+ghost use Rattle.std.specs.Prelude.{◌≡◌, ◌≢◌, ℕ, List, ◌≤◌, ◌∷◌, ◌++◌, Some, IfOk, codes, length, map, string_bytes};
+ghost use Rattle.tim_io.specs.Causes.{Rose};
+ghost use Rattle.tim_io.specs.Shelves.{OthersStay};
+ghost use Rattle.timbuk_cli.specs.Words.{file_of};
+ghost use Rattle.timbuk_cli.specs.Output.{line, Judges, Says, Ran, Answers};
+
+use crate::reader::{SpecError, read_spec};
+use crate::status::Status;
+use crate::words::file_word;
+use std::alloc::{AllocError, Global};
+use tim_io::{ReadError, Shelf, Sink, read_all, write_all};
+
+/// The largest number of bytes of a specification.
+const MAX_SPEC: usize = 1048576;
+
+/// The line for words that are no command line.
+const USAGE: &str =
+    "usage: timbuk complete FILE [OPTIONS] | check SPEC CERT | ta OP FILE [--limit N] | browse SPEC SCRIPT | sample N\n";
+
+/// The verdict on the bytes of a file. The only error is want of memory.
+fn judge(alloc: Global, bytes: &[u8]) -> Result<Status, AllocError>
+    requires { length bytes.now ≤ 1048576 }
+    ensures { IfOk result (Judges bytes.now) }
+{
+    match read_spec(alloc, bytes) {
+        Ok(_) => Ok(Status::Unreachable),
+        Err(SpecError::Unread) => Ok(Status::BadSpec),
+        Err(SpecError::Memory) => Err(AllocError),
+    }
+}
+
+/// The line for the verdict on a file.
+fn verdict_line(verdict: Status) -> &'static str
+    ensures unreachable { verdict ≡ Status.Unreachable → result.now ≡ line (codes "Verdict unreachable") }
+    ensures bad_spec { verdict ≡ Status.BadSpec → result.now ≡ line (codes "Bad specification") }
+{
+    match verdict {
+        Status::Unreachable => "Verdict unreachable\n",
+        _ => "Bad specification\n",
+    }
+}
+
+/// A refusal of a file, by its status and its line. The only error is want of memory.
+fn refusal(
+    alloc: Global,
+    status: Status,
+    what: &str,
+    name: &str,
+) -> Result<(Status, String), AllocError>
+    ensures { IfOk result (λ a. (a.0 ≡ status) × (string_bytes a.1 ≡ line (what.now ++ 32 ∷ name.now))) }
+{
+    Ok((status, format!(in alloc; "{what} {name}\n")?))
+}
+
+/// What is said of a file: a status and its text. The only error is want of memory.
+fn answer<F: Shelf>(
+    alloc: Global,
+    name: &str,
+    shelf: &mut F,
+) -> Result<(Status, String), AllocError>
+    ensures says { IfOk result (λ a.
+        Says name.now (F.left shelf.old name.now) (Rose (F.faults shelf.old name.now) (F.faults shelf.new name.now)) (string_bytes a.1) a.0) }
+    ensures others { OthersStay (F.left shelf.old) (F.left shelf.new) name.now }
+    ensures other_faults { OthersStay (F.faults shelf.old) (F.faults shelf.new) name.now }
+{
+    let bytes = match read_all(alloc, shelf, name, MAX_SPEC) {
+        Ok(bytes) => bytes,
+        Err(ReadError::Fault) => return refusal(alloc, Status::ReadFault, "Cannot read", name),
+        Err(ReadError::TooLong) => return refusal(alloc, Status::TooLong, "Too long", name),
+        Err(ReadError::Memory) => return Err(AllocError),
+    };
+    let verdict = judge(alloc, bytes.as_slice())?;
+    Ok((verdict, String::from_str(alloc, verdict_line(verdict))?))
+}
+
+/// Does what the words say, over the files of the shelf, and writes what there is to say to the sink.
+///
+/// The words are exactly `complete FILE`. `Unreachable` comes exactly where the file is a specification (up to now one
+/// without rules and with one automaton), and then no term that is reachable in it is forbidden. `BadWords` comes exactly
+/// where the words are no command line, `TooLong` exactly where the file has more than 1,048,576 bytes, `BadSpec` exactly
+/// where its bytes are no specification, `ReadFault` only where the shelf failed at the file, `WriteFault` only where the
+/// sink failed, and `Memory` at want of memory once the words were understood. At each but the last two the whole text of
+/// the answer is written, at `WriteFault` a part of it, and at `Memory` nothing.
+pub fn run<F: Shelf, K: Sink>(alloc: Global, words: &[String], shelf: &mut F, out: &mut K) -> Status
+    ensures ran { Ran (map string_bytes words.now) (F.left shelf.old)
+        (λ name. Rose (F.faults shelf.old name) (F.faults shelf.new name))
+        (Rose (K.faults out.old) (K.faults out.new))
+        (K.written out.old) (K.written out.new) result }
+
+    // Where no count rose, the words and the contents of the file name the answer.
+    ensures complete { ((name : List ℕ) → file_of (map string_bytes words.now) ≡ Some name → ¬ Rose (F.faults shelf.old name) (F.faults shelf.new name))
+        → ¬ Rose (K.faults out.old) (K.faults out.new)
+        → Answers (map string_bytes words.now) (F.left shelf.old) result }
+
+    // What the shelf tells of names that are no file word stays.
+    ensures others { (name : List ℕ) → file_of (map string_bytes words.now) ≢ Some name →
+        (F.left shelf.new name ≡ F.left shelf.old name) × (F.faults shelf.new name ≡ F.faults shelf.old name) }
+{
+    let Some(name) = file_word(words) else {
+        return match write_all(out, USAGE.as_bytes()) {
+            Ok(()) => Status::BadWords,
+            Err(_) => Status::WriteFault,
+        };
+    };
+    let Ok((status, text)) = answer(alloc, name, shelf) else {
+        return Status::Memory;
+    };
+    match write_all(out, text.as_bytes()) {
+        Ok(()) => status,
+        Err(_) => Status::WriteFault,
+    }
+}
