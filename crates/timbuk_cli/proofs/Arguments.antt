@@ -1,14 +1,14 @@
 -- The arguments of a transition.
-use Rattle.std.proofs.Common.{◌≡◌, ◌≢◌, ℕ, suc, ◌+◌, ◌-◌, ◌<◌, ◌≤◌, List, [], ◌∷◌, ◌++◌, All, Contains, map, length, drop, codes, refl, sym, ap, subst, ◌∙◌, append_assoc, arith}
-use Rattle.std.proofs.lemmas.List.{length-map, length_push, append-nil}
-use Rattle.std.proofs.lemmas.List.Elements.{All-nil, All-cons, All-head, All-tail}
+use Rattle.std.proofs.Common.{◌≡◌, ◌≢◌, ℕ, ◌+◌, ◌-◌, ◌<◌, ◌≤◌, List, [], ◌∷◌, ◌++◌, All, Contains, map, length, drop, codes, refl, sym, ap, ◌∙◌, arith}
+use Rattle.std.proofs.lemmas.List.{length-map, length_push}
+use Rattle.std.proofs.lemmas.List.Elements.{All-cons, All-tail}
 use Rattle.timbuk_lex.specs.declared.lexeme.Lexeme.{Lexeme}
-use Rattle.timbuk_cli.specs.Glyphs.{Text, Glyph, word, mark, glyph_of, glyphs_of, IsToken}
+use Rattle.timbuk_cli.specs.Glyphs.{Text, Glyph, word, mark, glyphs_of, HasWord}
 use Rattle.timbuk_cli.specs.Source.{spelled_args, spelled_more, spelled_all}
 use Rattle.timbuk_cli.specs.BareText.{place_in}
 use Rattle.timbuk_cli.specs.Reads.{Reads, Lacks, ReadsSome, FollowsMark, LacksMark, AreArguments, spelled_after, spelled_next}
 use Rattle.timbuk_cli.proofs.Fronts.{same_tail}
-use Rattle.timbuk_cli.proofs.Decoding.{Decodes, IsRest, rest_at, left_of, lacks_in_front, reads_none, reads_push_at}
+use Rattle.timbuk_cli.proofs.Decoding.{Decodes, rest_at, left_of, lacks_in_front, reads_push_at}
 
 -- ---- arguments behind the first
 
@@ -26,16 +26,7 @@ pub record HasRead (states : List Text) (first : ℕ) (xs : List Lexeme) (args :
   pub within : at ≤ length xs
   pub some : ReadsSome spelled_next (Contains states) (place_in states) xs values (drop at xs)
 
-pub none_read : (states : List Text) (first : ℕ) (xs : List Lexeme) (args : List ℕ) → args ≡ [] ++ first ∷ [] → All IsToken xs → HasRead states first xs args 0 0
-none_read states first xs args e tokens = record {
-  values = [];
-  has = e;
-  so_many = refl;
-  within = omega arith;
-  some = reads_none spelled_next (Contains states) (place_in states) xs tokens;
-}
-
-pub one_read : (states : List Text) (first : ℕ) (xs rest : List Lexeme) (args more : List ℕ) (at count state : ℕ) → All IsToken xs → HasRead states first xs args at count → Reads spelled_next (Contains states) (place_in states) (drop at xs) state rest → more ≡ args ++ state ∷ [] → HasRead states first xs more (length xs - length rest) (count + 1)
+pub one_read : (states : List Text) (first : ℕ) (xs rest : List Lexeme) (args more : List ℕ) (at count state : ℕ) → All HasWord xs → HasRead states first xs args at count → Reads spelled_next (Contains states) (place_in states) (drop at xs) state rest → more ≡ args ++ state ∷ [] → HasRead states first xs more (length xs - length rest) (count + 1)
 one_read states first xs rest args more at count state tokens h r e = record {
   values = h.values ++ state ∷ [];
   has = e ∙ ap (λ l. l ++ state ∷ []) h.has;
@@ -55,29 +46,11 @@ lacks_next states first xs args at count total below h lacks = record {
       lacks_in_front spelled_next (Contains states) (drop at xs) l.0 after l.3 lacks (omega (arith, n, h.so_many, ok.so_many, below, l.2)) l.1;
 }
 
-pub all_read : (states : List Text) (first : ℕ) (xs : List Lexeme) (args : List ℕ) (at count : ℕ) → HasRead states first xs args at count → Reads (spelled_all spelled_next) (AreArguments states count) (λ more. first ∷ map (place_in states) more) xs args (drop at xs)
-all_read states first xs args at count h = record {
-  declaration = h.some.declarations;
-  allowed = record { are_states = h.some.allowed; so_many = counted states h.values h.some.declarations h.some.are ∙ h.so_many };
-  glyphs = h.some.glyphs;
-  is = h.has ∙ ap (λ l. first ∷ l) h.some.are;
-  tokens = h.some.tokens;
-}
-
 -- ---- in parentheses
 
 more_and_close : (more : List Text) (s : List Glyph) → spelled_more more ++ s ≡ spelled_all spelled_next more ++ (mark (codes ")") ∷ s)
 more_and_close [] s = refl
 more_and_close (a ∷ more) s = ap (λ z. mark (codes ",") ∷ word a ∷ z) (more_and_close more s)
-
-pub reads_no_args : (states : List Text) (xs : List Lexeme) (args : List ℕ) (count : ℕ) → count ≡ 0 → args ≡ [] → All IsToken xs → Reads spelled_args (AreArguments states count) (map (place_in states)) xs args xs
-reads_no_args states xs args count e a tokens = record {
-  declaration = [];
-  allowed = record { are_states = All-nil (Contains states); so_many = sym e };
-  glyphs = refl;
-  is = a;
-  tokens = tokens;
-}
 
 module _ (states : List Text) (count : ℕ) (xs ys : List Lexeme) (first : ℕ) (some : count ≢ 0) where
   abbrev First : Type 0
@@ -85,13 +58,6 @@ module _ (states : List Text) (count : ℕ) (xs ys : List Lexeme) (first : ℕ) 
 
   abbrev More : List ℕ → List Lexeme → Type 0
   More args zs = Reads (spelled_all spelled_next) (AreArguments states (count - 1)) (λ more. first ∷ map (place_in states) more) ys args zs
-
-  pub lacks_first : Lacks (spelled_after (codes "(")) (Contains states) xs → Lacks spelled_args (AreArguments states count) xs
-  lacks_first h = record { none = none }
-    where
-      none : (all : List Text) (after : List Glyph) → AreArguments states count all → glyphs_of xs ≢ spelled_args all ++ after
-      none [] after ok e = some (sym ok.so_many)
-      none (a ∷ all) after ok e = h.none a (spelled_more all ++ after) (All-head (Contains states) a all ok.are_states) e
 
   behind : First → (a : Text) (all : List Text) (after : List Glyph) → glyphs_of xs ≡ spelled_args (a ∷ all) ++ after → glyphs_of ys ≡ spelled_all spelled_next all ++ (mark (codes ")") ∷ after)
   behind r a all after e =

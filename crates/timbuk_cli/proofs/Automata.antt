@@ -1,25 +1,25 @@
 -- What the declarations of an automaton number.
-use Rattle.std.proofs.Common.{◌≡◌, ℕ, ◌+◌, ◌<◌, ◌≤◌, ◌==◌, ◌⊎◌, Bool, true, List, [], ◌∷◌, ◌++◌, Some, All, Contains, IsTrue, map, length, get_or, refl, sym, ap, subst, ◌∙◌, inr, ⊎_elim, arith}
+use Rattle.std.proofs.Common.{◌≡◌, ℕ, ◌+◌, ◌<◌, ◌==◌, true, List, [], ◌∷◌, ◌++◌, All, Contains, IsTrue, map, length, sym, ap, subst, ◌∙◌, inr, ⊎_elim, arith}
 use Rattle.std.specs.declared.cmp.Ordering.{Ordering}
-use Rattle.std.specs.List.{list_all, range_with_len}
+use Rattle.std.specs.List.{range_with_len}
 use Rattle.std.specs.List.Sorted.{IsStrictlySortedBy}
 use Rattle.std.specs.Ordering.{nat_cmp}
 use Rattle.std.proofs.lemmas.Bool.Decides.{nat_tests}
 use Rattle.std.proofs.lemmas.List.{length-map, map-id}
-use Rattle.std.proofs.lemmas.List.Elements.{All-map, All-weaker, All-contains, All-contains_itself, All-get_or}
+use Rattle.std.proofs.lemmas.List.Elements.{All-map, All-weaker, All-contains, All-contains_itself}
 use Rattle.std.proofs.lemmas.List.FromFn.{length-range_with_len, get_or-range_with_len, map-range_with_len_more}
 use Rattle.std.proofs.lemmas.List.Sums.{list_all-from_AllPass}
 use Rattle.std.proofs.lemmas.Map.Keys.{sorted_from_strictly_increasing}
-use Rattle.ranked_terms.specs.Names.{Symbol, names_of, arity_of}
+use Rattle.ranked_terms.specs.Names.{Symbol, names_of}
 use Rattle.ranked_terms.specs.Terms.{is_symbol, is_arity}
 use Rattle.ta_core.specs.Orders.{IsUnion}
 use Rattle.ta_core.specs.SpecRules.{automaton_is_over}
 use Rattle.ta_core.specs.TreeAutomaton.{TreeAutomaton, IsTransOf, bare, trans_cmp}
 use Rattle.ta_core.specs.declared.trans.Trans.{Trans}
 use Rattle.timbuk_lex.specs.declared.lexeme.Lexeme.{Lexeme}
-use Rattle.timbuk_cli.specs.Glyphs.{Text, Glyph, word}
+use Rattle.timbuk_cli.specs.Glyphs.{Text, word}
 use Rattle.timbuk_cli.specs.Source.{TransitionDeclaration, spelled_name, spelled_transition}
-use Rattle.timbuk_cli.specs.BareText.{place_in, transition_of, IsAllowedTransition, IsAscendingSet, Numbers}
+use Rattle.timbuk_cli.specs.BareText.{place_in, transition_of, IsAllowedTransition, IsAscendingSet}
 use Rattle.timbuk_cli.specs.Reads.{ReadsAll, ReadsAutomaton}
 use Rattle.timbuk_cli.proofs.Fronts.{same_tail, below_from_position}
 use Rattle.timbuk_cli.proofs.Decoding.{Decodes}

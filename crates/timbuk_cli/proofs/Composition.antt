@@ -1,5 +1,5 @@
 -- From the parts of a bare text to its specification, and back.
-use Rattle.std.proofs.Common.{◌≡◌, ◌≢◌, ℕ, ◌<◌, List, [], ◌∷◌, ◌++◌, Option, Some, Result, Ok, Err, IfOk, length, false, refl, sym, ap, subst, ◌∙◌, arith, length-append}
+use Rattle.std.proofs.Common.{◌≡◌, ◌≢◌, ℕ, ◌<◌, List, [], ◌∷◌, ◌++◌, Some, Result, Ok, Err, IfOk, length, false, refl, sym, ap, subst, ◌∙◌, arith, length-append}
 use Rattle.std.proofs.lemmas.List.{append-nil}
 use Rattle.std.specs.List.{All, Contains}
 use Rattle.ranked_terms.specs.Names.{Symbol, names_of}
@@ -10,14 +10,14 @@ use Rattle.timbuk_lex.specs.declared.lex.Ending.TheVariants.{Whole}
 use Rattle.timbuk_lex.specs.declared.lexeme.Lexeme.{Lexeme}
 use Rattle.timbuk_cli.specs.declared.reader.sections.Sections.{Sections}
 use Rattle.timbuk_cli.specs.Glyphs.{Text, Glyph, glyphs_of}
-use Rattle.timbuk_cli.specs.Source.{SymbolDeclaration, TransitionDeclaration, Source, symbols_in, variables_in, spelled_symbol, spelled_name, spelled_transition, spelled_all}
+use Rattle.timbuk_cli.specs.Source.{SymbolDeclaration, TransitionDeclaration, Source, symbols_in, variables_in, spelled_symbol, spelled_name, spelled_all}
 use Rattle.timbuk_cli.specs.BareText.{BareText, IsAllowed, Declares, AreNewNames, IsAllowedTransition, Numbers, signature_of, has_comment}
 use Rattle.timbuk_cli.specs.Sections.{IsCut}
 use Rattle.timbuk_cli.specs.Reading.{ReadsSymbols, IsOneName}
 use Rattle.timbuk_cli.specs.Reads.{ReadsAutomaton, LacksAutomaton}
 use Rattle.timbuk_cli.specs.Parts.{PartsSpell, ReadsParts}
 use Rattle.timbuk_cli.proofs.Spelling.{IsDecodable, symbols-decodable, names-decodable}
-use Rattle.timbuk_cli.proofs.SourceCut.{SpellsWhole, whole_spells}
+use Rattle.timbuk_cli.proofs.SourceCut.{whole_spells}
 
 -- ---- one spelling, one list of declarations
 

@@ -1,9 +1,9 @@
 -- Declarations that are spelled one after another.
-use Rattle.std.proofs.Common.{◌≡◌, ◌≢◌, ℕ, zero, suc, ◌+◌, ◌-◌, ◌<◌, ◌≤◌, List, [], ◌∷◌, ◌++◌, All, map, length, drop, refl, sym, ap, subst, ◌∙◌, append_assoc, length-append, arith}
+use Rattle.std.proofs.Common.{◌≡◌, ℕ, ◌+◌, ◌-◌, ◌<◌, ◌≤◌, List, [], ◌∷◌, ◌++◌, All, length, drop, refl, sym, ap, subst, ◌∙◌, append_assoc, length-append, arith}
 use Rattle.std.proofs.lemmas.List.{length-map, length-drop, drop-drop, drop-map, drop_at, map_push, append-nil}
 use Rattle.std.proofs.lemmas.List.Elements.{All-nil, All-push, All-head, All-tail, All-drop}
 use Rattle.timbuk_lex.specs.declared.lexeme.Lexeme.{Lexeme}
-use Rattle.timbuk_cli.specs.Glyphs.{Text, Glyph, glyph_of, glyphs_of, IsToken}
+use Rattle.timbuk_cli.specs.Glyphs.{Glyph, glyph_of, glyphs_of, HasWord}
 use Rattle.timbuk_cli.specs.Source.{spelled_all}
 use Rattle.timbuk_cli.specs.Reads.{Reads, Lacks, ReadsSome, ReadsAll, LacksAll}
 
@@ -71,7 +71,7 @@ module _ {D : Type 0} (spelled : D → List Glyph) (Allowed : D → Type 0) wher
   lacks_in_front xs (d ∷ left) s ok lacks some e = lacks.none d (spelled_all spelled left ++ s) (All-head Allowed d left ok) (e ∙ append_assoc (spelled d) (spelled_all spelled left) s)
 
   module _ {V : Type 0} (meaning : D → V) where
-    pub reads_none : (xs : List Lexeme) → All IsToken xs → ReadsSome spelled Allowed meaning xs [] xs
+    pub reads_none : (xs : List Lexeme) → All HasWord xs → ReadsSome spelled Allowed meaning xs [] xs
     reads_none xs tokens = record { declarations = []; allowed = All-nil Allowed; glyphs = refl; are = refl; tokens = tokens }
 
     pub reads_push : (xs rest after : List Lexeme) (values : List V) (value : V) → ReadsSome spelled Allowed meaning xs values rest → Reads spelled Allowed meaning rest value after → ReadsSome spelled Allowed meaning xs (values ++ value ∷ []) after
@@ -84,7 +84,7 @@ module _ {D : Type 0} (spelled : D → List Glyph) (Allowed : D → Type 0) wher
     }
 
     -- the same, where the rest is said by its place
-    pub reads_push_at : (xs rest : List Lexeme) (at : ℕ) (values : List V) (value : V) → at ≤ length xs → All IsToken xs → ReadsSome spelled Allowed meaning xs values (drop at xs) → Reads spelled Allowed meaning (drop at xs) value rest → ReadsSome spelled Allowed meaning xs (values ++ value ∷ []) (drop (length xs - length rest) xs)
+    pub reads_push_at : (xs rest : List Lexeme) (at : ℕ) (values : List V) (value : V) → at ≤ length xs → All HasWord xs → ReadsSome spelled Allowed meaning xs values (drop at xs) → Reads spelled Allowed meaning (drop at xs) value rest → ReadsSome spelled Allowed meaning xs (values ++ value ∷ []) (drop (length xs - length rest) xs)
     reads_push_at xs rest at values value within tokens r n =
         let h = rest_at xs rest at (spelled n.declaration) within n.glyphs in
         reads_push xs (drop at xs) (drop (length xs - length rest) xs) values value r (record {
@@ -92,7 +92,7 @@ module _ {D : Type 0} (spelled : D → List Glyph) (Allowed : D → Type 0) wher
           allowed = n.allowed;
           glyphs = n.glyphs ∙ ap (λ z. spelled n.declaration ++ z) (sym h.glyphs);
           is = n.is;
-          tokens = All-drop IsToken (length xs - length rest) xs tokens;
+          tokens = All-drop HasWord (length xs - length rest) xs tokens;
         })
 
     pub reads_shorter : Decodes spelled Allowed → (xs rest : List Lexeme) (value : V) → Reads spelled Allowed meaning xs value rest → length rest < length xs
@@ -122,7 +122,7 @@ module _ {D : Type 0} (spelled : D → List Glyph) (Allowed : D → Type 0) wher
       pub nearer : length xs - (length xs - length rest) < length xs - at
       pub some : ReadsSome spelled Allowed meaning xs values (drop (length xs - length rest) xs)
 
-    pub moves : Decodes spelled Allowed → (xs rest : List Lexeme) (at : ℕ) (values more : List V) (value : V) → at < length xs → All IsToken xs → ReadsSome spelled Allowed meaning xs values (drop at xs) → Reads spelled Allowed meaning (drop at xs) value rest → more ≡ values ++ value ∷ [] → Moves xs rest at more
+    pub moves : Decodes spelled Allowed → (xs rest : List Lexeme) (at : ℕ) (values more : List V) (value : V) → at < length xs → All HasWord xs → ReadsSome spelled Allowed meaning xs values (drop at xs) → Reads spelled Allowed meaning (drop at xs) value rest → more ≡ values ++ value ∷ [] → Moves xs rest at more
     moves decodes xs rest at values more value below tokens r n e =
         let shorter = reads_shorter decodes (drop at xs) rest value n in
         record {
@@ -134,6 +134,3 @@ module _ {D : Type 0} (spelled : D → List Glyph) (Allowed : D → Type 0) wher
 
     pub lacks_all_at : Decodes spelled Allowed → (xs : List Lexeme) (at : ℕ) (values : List V) → at < length xs → ReadsSome spelled Allowed meaning xs values (drop at xs) → Lacks spelled Allowed (drop at xs) → LacksAll spelled Allowed xs
     lacks_all_at decodes xs at values below r lacks = lacks_all decodes xs (drop at xs) values (omega (arith, below, length-drop at xs)) r lacks
-
-    pub reads_all_at : (xs : List Lexeme) (at : ℕ) (values : List V) → length xs ≤ at → ReadsSome spelled Allowed meaning xs values (drop at xs) → ReadsAll spelled Allowed meaning xs values
-    reads_all_at xs at values past r = reads_all xs (drop at xs) values (omega (arith, past, length-drop at xs)) r

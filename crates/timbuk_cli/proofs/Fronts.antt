@@ -1,6 +1,5 @@
 -- What stands at the front of tokens.
-use Rattle.std.proofs.Common.{◌≡◌, ◌≢◌, ℕ, ◌<◌, ◌≤◌, true, false, List, [], ◌∷◌, ◌++◌, Option, Some, None, All, Contains, length, get_or, position, refl, sym, ap, subst, ◌∙◌, cond, nat_lt, arith, rules}
-use Rattle.std.specs.List.{position_or_len}
+use Rattle.std.proofs.Common.{◌≡◌, ◌≢◌, ℕ, ◌<◌, ◌≤◌, true, false, List, ◌∷◌, Some, None, All, Contains, length, get_or, position, refl, sym, ap, subst, ◌∙◌, cond, nat_lt, arith}
 use Rattle.std.specs.Str.{bytes_eq}
 use Rattle.std.proofs.lemmas.Bool.Decides.{nat_tests}
 use Rattle.std.proofs.lemmas.List.Elements.{All-tail}
@@ -9,10 +8,10 @@ use Rattle.std.proofs.lemmas.List.Sums.{fails_before_first}
 use Rattle.std.proofs.lemmas.Option.{cond_some}
 use Rattle.std.proofs.lemmas.Slice.Eq.{bytes_eq-Decides}
 use Rattle.timbuk_lex.specs.declared.lexeme.Lexeme.{Lexeme}
-use Rattle.timbuk_cli.specs.Glyphs.{Text, Glyph, word, mark, glyph_of, glyphs_of, IsToken}
+use Rattle.timbuk_cli.specs.Glyphs.{Text, Glyph, word, mark, glyph_of, glyphs_of, HasWord}
 use Rattle.timbuk_cli.specs.Source.{spelled_name}
 use Rattle.timbuk_cli.specs.BareText.{place_in}
-use Rattle.timbuk_cli.specs.Reads.{Reads, Lacks, FollowsMark, LacksMark, AnyText}
+use Rattle.timbuk_cli.specs.Reads.{Reads, Lacks, FollowsMark, AnyText}
 
 -- ---- lists of glyphs
 
@@ -27,16 +26,16 @@ same_word s t gs hs e = ap (λ (g : Glyph). g.1) (same_first (word s) (word t) g
 
 -- ---- the first token
 
-pub tokens_after : (xs rest : List Lexeme) (first : Lexeme) → xs ≡ first ∷ rest → All IsToken xs → All IsToken rest
-tokens_after xs rest first e tokens = All-tail IsToken first rest (subst (All IsToken) e tokens)
+pub tokens_after : (xs rest : List Lexeme) (first : Lexeme) → xs ≡ first ∷ rest → All HasWord xs → All HasWord rest
+tokens_after xs rest first e tokens = All-tail HasWord first rest (subst (All HasWord) e tokens)
 
 pub glyphs_after : (xs rest : List Lexeme) (first : Lexeme) (g : Glyph) → xs ≡ first ∷ rest → glyph_of first ≡ g → glyphs_of xs ≡ g ∷ glyphs_of rest
 glyphs_after xs rest first g e f = ap glyphs_of e ∙ ap (λ h. h ∷ glyphs_of rest) f
 
-pub follows_mark : (xs rest : List Lexeme) (first : Lexeme) (text : Text) → xs ≡ first ∷ rest → All IsToken xs → glyph_of first ≡ mark text → FollowsMark text xs rest
+pub follows_mark : (xs rest : List Lexeme) (first : Lexeme) (text : Text) → xs ≡ first ∷ rest → All HasWord xs → glyph_of first ≡ mark text → FollowsMark text xs rest
 follows_mark xs rest first text e tokens f = record { glyphs = glyphs_after xs rest first (mark text) e f; tokens = tokens_after xs rest first e tokens }
 
-pub reads_word : (xs rest : List Lexeme) (first : Lexeme) (text : Text) → xs ≡ first ∷ rest → All IsToken xs → glyph_of first ≡ word text → Reads spelled_name AnyText (λ t. t) xs text rest
+pub reads_word : (xs rest : List Lexeme) (first : Lexeme) (text : Text) → xs ≡ first ∷ rest → All HasWord xs → glyph_of first ≡ word text → Reads spelled_name AnyText (λ t. t) xs text rest
 reads_word xs rest first text e tokens f = record {
   declaration = text;
   allowed = tt;

@@ -1,46 +1,29 @@
 -- Word tokens as texts, and tables of names as lists.
-use Rattle.std.proofs.Common.{◌≡◌, ◌≢◌, ◌↔◌, ℕ, zero, suc, ◌+◌, ◌<◌, Bool, true, false, not, ◌&&◌, ◌||◌, nat_lt, cond, List, [], ◌∷◌, ◌++◌, length, position, Some, None, Result, Ok, Err, MatchOption, MatchResult, IsTrue, Bor, String, string_bytes, refl, sym, ap, subst, ◌∙◌, Contains, true≢false, arith}
+use Rattle.std.proofs.Common.{◌≡◌, ◌≢◌, ◌↔◌, ℕ, suc, ◌+◌, Bool, true, false, not, ◌||◌, nat_lt, cond, List, [], ◌∷◌, ◌++◌, length, position, Some, None, Result, Ok, Err, MatchOption, MatchResult, IsTrue, Bor, String, string_bytes, refl, sym, ap, subst, ◌∙◌, Contains, true≢false}
 use Rattle.std.specs.Global.{Global}
-use Rattle.std.specs.List.{IsDistinct, AllByRecursion, position_or_len, list_any, list_all}
-use Rattle.std.specs.Str.{bytes_eq, IsAscii, IsUtf8, IsValidUpTo, valid_up_to}
+use Rattle.std.specs.List.{IsDistinct, AllByRecursion, position_or_len, list_any}
+use Rattle.std.specs.Str.{bytes_eq, IsUtf8, IsValidUpTo, valid_up_to}
 use Rattle.std.specs.String.{string_eq}
 use Rattle.std.specs.Result.{result_ok}
 use Rattle.std.specs.declared.str.Utf8Error.{Utf8Error}
-use Rattle.std.proofs.lemmas.Bool.Decides.{nat_tests}
 use Rattle.std.proofs.lemmas.Cmp.{nat_list_eq_equiv}
 use Rattle.std.proofs.lemmas.Map.Views.{list_any-from_Contains, Contains-from_any}
 use Rattle.std.proofs.lemmas.Slice.Eq.{bytes_eq-Decides}
-use Rattle.std.proofs.lemmas.Str.{IsUtf8-from_ascii}
+use Rattle.timbuk_lex.proofs.Ascii.{word_is_utf8}
 use Rattle.indexmap.specs.IndexSet.{insert_key}
-use Rattle.ranked_terms.specs.Words.{is_word_byte, IsWord}
 use Rattle.timbuk_lex.specs.declared.lexeme.Lexeme.{Lexeme}
 use Rattle.timbuk_lex.specs.declared.lexeme.TokenKind.TheVariants.{Word}
-use Rattle.timbuk_cli.specs.Glyphs.{Text, word, glyph_of, IsToken}
+use Rattle.timbuk_cli.specs.Glyphs.{Text, word, glyph_of, HasWord}
 use Rattle.timbuk_cli.specs.NameTables.{texts_of}
 
 -- ---- the text of a word
 
-word_byte_below : (b : ℕ) → is_word_byte b ≡ true → b < 128
-word_byte_below b h = grind (arith, nat_tests)
-
-and_both : (a b : Bool) → (a && b) ≡ true → (a ≡ true) × (b ≡ true)
-and_both true b e = (refl, e)
-and_both false b e = absurd (true≢false (sym e))
-
-word_bytes_below : (text : Text) → list_all is_word_byte text ≡ true → IsAscii text
-word_bytes_below [] h i = omega arith
-word_bytes_below (b ∷ text) h zero = word_byte_below b (and_both (is_word_byte b) (list_all is_word_byte text) h).0
-word_bytes_below (b ∷ text) h (suc i) = word_bytes_below text (and_both (is_word_byte b) (list_all is_word_byte text) h).1 i
-
-pub IsUtf8-from_word : (text : Text) → IsWord text → IsUtf8 text
-IsUtf8-from_word text h = IsUtf8-from_ascii text (word_bytes_below text h.bytes)
-
 -- the bytes of a word token are text
-pub word_as_text : (lexeme : Lexeme) (bytes : List ℕ) (r : Result (Bor (List ℕ)) Utf8Error) → IsToken lexeme → lexeme.kind ≡ Word → bytes ≡ lexeme.text
+pub word_as_text : (lexeme : Lexeme) (bytes : List ℕ) (r : Result (Bor (List ℕ)) Utf8Error) → HasWord lexeme → lexeme.kind ≡ Word → bytes ≡ lexeme.text
     → MatchResult r (λ s. (s.now ≡ bytes) × IsUtf8 bytes) (λ e. ¬ (IsUtf8 bytes) × IsValidUpTo bytes (valid_up_to e))
     → MatchOption (result_ok r) ((text : Text) → glyph_of lexeme ≢ word text) (λ s. glyph_of lexeme ≡ word s.now)
 word_as_text lexeme bytes (Ok s) token kind same h = cc
-word_as_text lexeme bytes (Err e) token kind same h = absurd (h.0 (subst IsUtf8 (sym same) (IsUtf8-from_word lexeme.text (token kind))))
+word_as_text lexeme bytes (Err e) token kind same h = absurd (h.0 (subst IsUtf8 (sym same) (word_is_utf8 lexeme.text (token kind))))
 
 -- ---- the names of a table
 

@@ -4,7 +4,7 @@ use Rattle.std.proofs.lemmas.List.{take_rest}
 use Rattle.std.proofs.lemmas.List.Elements.{All-drop}
 use Rattle.ranked_terms.specs.Names.{Symbol, number_of}
 use Rattle.timbuk_lex.specs.declared.lexeme.Lexeme.{Lexeme}
-use Rattle.timbuk_cli.specs.Glyphs.{Text, Glyph, glyph_of, glyphs_of, IsToken}
+use Rattle.timbuk_cli.specs.Glyphs.{Text, Glyph, glyph_of, glyphs_of, HasWord}
 use Rattle.timbuk_cli.specs.Source.{SymbolDeclaration, spelled_symbol, spelled_all}
 use Rattle.timbuk_cli.specs.BareText.{value_of, signature_of, AreSymbols}
 use Rattle.timbuk_cli.specs.Reading.{DeclaresSymbol, IsNewSymbol, AddsSymbol}
@@ -70,8 +70,8 @@ more_symbols glyphs rest left old new r adds =
       numbered = adds.added ∙ (ap (λ s. s ++ (d.name, value_of d.arity) ∷ []) r.numbered ∙ sym (signature_of-append r.done (d ∷ [])));
     }
 
-pub rest_are_tokens : (lexemes : List Lexeme) → All IsToken lexemes → All IsToken (take (length lexemes - 3) (drop 3 lexemes))
-rest_are_tokens lexemes h = subst (All IsToken) (sym (take_rest lexemes 3)) (All-drop IsToken 3 lexemes h)
+pub rest_are_tokens : (lexemes : List Lexeme) → All HasWord lexemes → All HasWord (take (length lexemes - 3) (drop 3 lexemes))
+rest_are_tokens lexemes h = subst (All HasWord) (sym (take_rest lexemes 3)) (All-drop HasWord 3 lexemes h)
 
 pub rest_read : (glyphs : List Glyph) (lexemes : List Lexeme) (signature : List Symbol) → HasRead glyphs (glyphs_of (drop 3 lexemes)) signature → HasRead glyphs (glyphs_of (take (length lexemes - 3) (drop 3 lexemes))) signature
 rest_read glyphs lexemes signature h = subst (λ rest. HasRead glyphs (glyphs_of rest) signature) (sym (take_rest lexemes 3)) h

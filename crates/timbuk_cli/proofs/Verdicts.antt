@@ -1,14 +1,14 @@
 -- What the verdicts of `run` rest on.
-use Rattle.std.proofs.Common.{◌≡◌, ℕ, ◌≤◌, ◌<◌, List, [], Option, Some, None, IfSome, length, arith, sym, ◌∙◌, ap, subst, inl, refl, codes}
+use Rattle.std.proofs.Common.{◌≡◌, ℕ, ◌≤◌, List, [], Option, Some, None, IfSome, length, arith, ap, subst, inl, refl, codes}
 use Rattle.std.specs.List.{Contains}
 use Rattle.ranked_terms.specs.declared.term.Term.{Term}
-use Rattle.ta_core.specs.TreeAutomaton.{TreeAutomaton, bare}
+use Rattle.ta_core.specs.TreeAutomaton.{TreeAutomaton}
 use Rattle.ta_core.specs.Languages.{Accepts}
 use Rattle.ta_core.specs.declared.spec.Spec.{Spec}
 use Rattle.timbuk_cli.specs.Glyphs.{Text}
 use Rattle.timbuk_cli.specs.Words.{file_of}
 use Rattle.timbuk_cli.specs.BareText.{BareText}
-use Rattle.timbuk_cli.specs.Output.{IsSafe, IsNoSpec, Judges, Says, Answers, limit, line}
+use Rattle.timbuk_cli.specs.Output.{IsSafe, Judges, Says, Answers, limit, line}
 use Rattle.timbuk_cli.specs.declared.status.Status.{Status}
 use Rattle.timbuk_cli.specs.declared.status.Status.TheVariants.{Unreachable, BadWords, BadSpec, TooLong, ReadFault, WriteFault, Memory}
 

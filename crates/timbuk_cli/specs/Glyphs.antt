@@ -1,6 +1,7 @@
 -- Tokens without their places.
-use Rattle.std.specs.Prelude.{◌≡◌, ℕ, Bool, true, false, List, map}
-use Rattle.ranked_terms.specs.Words.{IsWord}
+use Rattle.std.specs.Prelude.{ℕ, Bool, true, false, List, map}
+-- what the lexer ensures of each token: one of the kind of words is a word
+pub use Rattle.timbuk_lex.specs.Laws.{HasWord}
 use Rattle.timbuk_lex.specs.declared.lexeme.TokenKind.{TokenKind}
 use Rattle.timbuk_lex.specs.declared.lexeme.TokenKind.TheVariants.{Word, Text as Quoted, Mark}
 use Rattle.timbuk_lex.specs.declared.lexeme.Lexeme.{Lexeme}
@@ -29,7 +30,3 @@ abbrev pub is_word : TokenKind → Bool
 is_word Word = true
 is_word Quoted = false
 is_word Mark = false
-
--- what the lexer ensures of each token: one of the kind of words is a word
-abbrev pub IsToken : Lexeme → Type 0
-IsToken lexeme = lexeme.kind ≡ Word → IsWord lexeme.text

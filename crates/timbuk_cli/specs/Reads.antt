@@ -3,7 +3,7 @@ use Rattle.std.specs.Prelude.{◌≡◌, ◌≢◌, ℕ, List, [], ◌∷◌, �
 use Rattle.ranked_terms.specs.Names.{Symbol}
 use Rattle.ta_core.specs.TreeAutomaton.{TreeAutomaton}
 use Rattle.timbuk_lex.specs.declared.lexeme.Lexeme.{Lexeme}
-use Rattle.timbuk_cli.specs.Glyphs.{Text, Glyph, word, mark, glyphs_of, IsToken}
+use Rattle.timbuk_cli.specs.Glyphs.{Text, Glyph, word, mark, glyphs_of, HasWord}
 use Rattle.timbuk_cli.specs.Source.{TransitionDeclaration, spelled_name, spelled_transition, spelled_all}
 use Rattle.timbuk_cli.specs.BareText.{IsAllowedTransition, Numbers}
 
@@ -15,7 +15,7 @@ pub record Reads {D V : Type 0} (spelled : D → List Glyph) (Allowed : D → Ty
   pub allowed : Allowed declaration
   pub glyphs : glyphs_of lexemes ≡ spelled declaration ++ glyphs_of rest
   pub is : value ≡ meaning declaration
-  pub tokens : All IsToken rest
+  pub tokens : All HasWord rest
 
 -- the tokens begin with no allowed declaration
 pub record Lacks {D : Type 0} (spelled : D → List Glyph) (Allowed : D → Type 0) (lexemes : List Lexeme) : Type 0 where
@@ -29,7 +29,7 @@ pub record ReadsSome {D V : Type 0} (spelled : D → List Glyph) (Allowed : D �
   pub allowed : All Allowed declarations
   pub glyphs : glyphs_of lexemes ≡ spelled_all spelled declarations ++ glyphs_of rest
   pub are : values ≡ map meaning declarations
-  pub tokens : All IsToken rest
+  pub tokens : All HasWord rest
 
 -- the tokens spell allowed declarations, and these values are what they mean
 pub record ReadsAll {D V : Type 0} (spelled : D → List Glyph) (Allowed : D → Type 0) (meaning : D → V) (lexemes : List Lexeme) (values : List V) : Type 0 where
@@ -47,7 +47,7 @@ pub record LacksAll {D : Type 0} (spelled : D → List Glyph) (Allowed : D → T
 -- the tokens are this mark and the rest
 pub record FollowsMark (text : Text) (lexemes rest : List Lexeme) : Type 0 where
   pub glyphs : glyphs_of lexemes ≡ mark text ∷ glyphs_of rest
-  pub tokens : All IsToken rest
+  pub tokens : All HasWord rest
 
 -- the tokens don't begin with this mark
 pub record LacksMark (text : Text) (lexemes : List Lexeme) : Type 0 where

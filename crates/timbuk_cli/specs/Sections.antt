@@ -5,7 +5,7 @@ use Rattle.std.specs.Str.{bytes_eq}
 use Rattle.timbuk_lex.specs.declared.lexeme.Lexeme.{Lexeme}
 use Rattle.timbuk_cli.specs.declared.reader.sections.Sections.{Sections}
 use Rattle.timbuk_cli.specs.Vocabulary.{is_reserved}
-use Rattle.timbuk_cli.specs.Glyphs.{Text, Glyph, is_word, glyphs_of, IsToken}
+use Rattle.timbuk_cli.specs.Glyphs.{Text, Glyph, is_word, glyphs_of, HasWord}
 use Rattle.timbuk_cli.specs.Source.{section, optional_section}
 
 -- a section word or a closed word
@@ -80,10 +80,10 @@ pub record IsCut (lexemes : List Lexeme) (p : Sections) : Type 0 where
 
 -- each part has what the lexer ensures of tokens
 pub record AreTokens (p : Sections) : Type 0 where
-  pub ops : All IsToken p.ops.now
-  pub vars : All IsToken p.vars.now
-  pub system : All IsToken p.system.now
-  pub automaton : All IsToken p.automaton.now
-  pub states : All IsToken p.states.now
-  pub finals : All IsToken p.finals.now
-  pub transitions : All IsToken p.transitions.now
+  pub ops : All HasWord p.ops.now
+  pub vars : All HasWord p.vars.now
+  pub system : All HasWord p.system.now
+  pub automaton : All HasWord p.automaton.now
+  pub states : All HasWord p.states.now
+  pub finals : All HasWord p.finals.now
+  pub transitions : All HasWord p.transitions.now

@@ -1,5 +1,5 @@
 -- The declarations of a bare text, and the tokens that spell them. This project's own format.
-use Rattle.std.specs.Prelude.{ℕ, List, [], ◌∷◌, ◌++◌, Option, Some, None, codes, unwrap_or, option_map}
+use Rattle.std.specs.Prelude.{List, [], ◌∷◌, ◌++◌, Option, Some, None, codes, unwrap_or, option_map}
 use Rattle.timbuk_cli.specs.Glyphs.{Text, Glyph, word, mark}
 
 -- `name : arity`

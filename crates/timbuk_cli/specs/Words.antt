@@ -1,5 +1,5 @@
 -- The command line `complete FILE`. This project's own.
-use Rattle.std.specs.Prelude.{ℕ, Bool, true, List, [], ◌∷◌, Option, Some, None, codes, if◌then◌else◌, not, ◌&&◌, ◌||◌, ◌==◌, slice_index, length}
+use Rattle.std.specs.Prelude.{ℕ, Bool, true, List, [], ◌∷◌, Option, Some, None, codes, if◌then◌else◌, not, ◌&&◌, ◌==◌}
 use Rattle.std.specs.Str.{bytes_eq}
 
 -- the single `-`, or a word that doesn't begin with `-`

@@ -3,7 +3,7 @@ ghost use Rattle.std.specs.Prelude.{◌≡◌, ◌≤◌, All, Contains, IsTrue,
 ghost use Rattle.std.specs.List.{range_with_len};
 ghost use Rattle.ta_core.specs.TreeAutomaton.{bare};
 ghost use Rattle.ta_core.specs.SpecRules.{automaton_is_over};
-ghost use Rattle.timbuk_cli.specs.Glyphs.{IsToken};
+ghost use Rattle.timbuk_cli.specs.Glyphs.{HasWord};
 ghost use Rattle.timbuk_cli.specs.Source.{spelled_name, spelled_transition};
 ghost use Rattle.timbuk_cli.specs.BareText.{place_in, transition_of, IsAllowedTransition};
 ghost use Rattle.timbuk_cli.specs.Reads.{ReadsAll, LacksAll, ReadsAutomaton, LacksAutomaton};
@@ -20,7 +20,7 @@ use timbuk_lex::Lexeme;
 /// The numbers of the states that the tokens name. `Unread` only where a token names no state.
 fn read_finals(alloc: Global, states: &NameTable, lexemes: &[Lexeme]) -> Result<Seq<u32>, SpecError>
     requires few { length states.now ≤ 16384 }
-    requires tokens { All IsToken lexemes.now }
+    requires tokens { All HasWord lexemes.now }
     ensures ok { IfOk result (λ finals. ReadsAll spelled_name (Contains states.now) (place_in states.now) lexemes.now finals) }
     ensures unread { IsErrOf result SpecError.Unread → LacksAll spelled_name (Contains states.now) lexemes.now }
 {
@@ -42,7 +42,7 @@ fn read_transitions(
     lexemes: &[Lexeme],
 ) -> Result<Seq<Trans>, SpecError>
     requires few { length states.now ≤ 16384 }
-    requires tokens { All IsToken lexemes.now }
+    requires tokens { All HasWord lexemes.now }
     ensures ok { IfOk result (λ trans. ReadsAll spelled_transition (IsAllowedTransition signature.now states.now) (transition_of signature.now states.now) lexemes.now trans) }
     ensures unread { IsErrOf result SpecError.Unread → LacksAll spelled_transition (IsAllowedTransition signature.now states.now) lexemes.now }
 {
@@ -79,8 +79,8 @@ pub(crate) fn read_automaton(
     transitions: &[Lexeme],
 ) -> Result<Automaton, SpecError>
     requires few { length states.now ≤ 16384 }
-    requires finals { All IsToken finals.now }
-    requires transitions { All IsToken transitions.now }
+    requires finals { All HasWord finals.now }
+    requires transitions { All HasWord transitions.now }
     ensures ok { IfOk result (λ automaton. ReadsAutomaton signature.now states.now finals.now transitions.now automaton) }
     ensures over { IfOk result (λ automaton. IsTrue (automaton_is_over signature.now automaton)) }
     ensures unread { IsErrOf result SpecError.Unread → LacksAutomaton signature.now states.now finals.now transitions.now }

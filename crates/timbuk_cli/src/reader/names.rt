@@ -3,7 +3,7 @@ ghost use Rattle.std.specs.Prelude.{◌≡◌, ◌≢◌, ◌↔◌, [], ◌∷�
 ghost use Rattle.std.specs.List.{IsDistinct};
 ghost use Rattle.std.specs.Str.{bytes_eq};
 ghost use Rattle.timbuk_cli.specs.Vocabulary.{IsName};
-ghost use Rattle.timbuk_cli.specs.Glyphs.{Text, word, glyph_of, IsToken};
+ghost use Rattle.timbuk_cli.specs.Glyphs.{Text, word, glyph_of, HasWord};
 
 mod read;
 
@@ -17,7 +17,7 @@ use timbuk_lex::{Lexeme, TokenKind};
 
 /// The text of a word token. `None` exactly at a token of another kind.
 pub(crate) fn word_of<'a>(lexeme: &Lexeme<'a>) -> Option<&'a str>
-    requires { IsToken lexeme.now }
+    requires { HasWord lexeme.now }
     ensures { MatchOption result ((text : Text) → glyph_of lexeme.now ≢ word text) (λ s. glyph_of lexeme.now ≡ word s.now) }
 {
     match lexeme.kind {
@@ -29,7 +29,7 @@ pub(crate) fn word_of<'a>(lexeme: &Lexeme<'a>) -> Option<&'a str>
 /// The text of a token that may be a name: a word of at most `MAX_NAME` bytes that is not reserved. `None` exactly at
 /// any other token.
 pub(crate) fn name_of<'a>(lexeme: &Lexeme<'a>) -> Option<&'a str>
-    requires { IsToken lexeme.now }
+    requires { HasWord lexeme.now }
     ensures { MatchOption result ((text : Text) → IsName text → glyph_of lexeme.now ≢ word text) (λ s. (glyph_of lexeme.now ≡ word s.now) × IsName s.now) }
 {
     let text = word_of(lexeme)?;

@@ -6,7 +6,7 @@ ghost use Rattle.std.specs.Prelude.{◌≡◌, ◌≤◌, [], length, not, All, 
 ghost use Rattle.std.specs.List.{prefix_len};
 ghost use Rattle.std.specs.Option.{IsSomeAnd};
 ghost use Rattle.timbuk_cli.specs.Vocabulary.{is_reserved};
-ghost use Rattle.timbuk_cli.specs.Glyphs.{glyph_of, glyphs_of, IsToken};
+ghost use Rattle.timbuk_cli.specs.Glyphs.{glyph_of, glyphs_of, HasWord};
 ghost use Rattle.timbuk_cli.specs.Sections.{is_title, is_this_word, section_of, Bodies, AreBodies, assembled, Shows, IsCut, AreTokens};
 
 use timbuk_lex::{Lexeme, TokenKind};
@@ -70,7 +70,7 @@ fn section<'s, 'a>(
     lexemes: &'s [Lexeme<'a>],
 ) -> Option<(&'s [Lexeme<'a>], &'s [Lexeme<'a>])>
     ensures value { option_map (λ p. (glyphs_of p.0.now, glyphs_of p.1.now)) result ≡ section_of title.now (glyphs_of lexemes.now) }
-    ensures tokens { All IsToken lexemes.now → IfSome result (λ p. All IsToken p.0.now × All IsToken p.1.now) }
+    ensures tokens { All HasWord lexemes.now → IfSome result (λ p. All HasWord p.0.now × All HasWord p.1.now) }
 {
     if lexemes.is_empty() || !is_this_token(title, &lexemes[0]) {
         return None;
@@ -88,7 +88,7 @@ fn optional_section<'s, 'a>(
     ensures body { glyphs_of result.0.now ≡ unwrap_or (option_map (λ p. p.0) (section_of title.now (glyphs_of lexemes.now))) [] }
     ensures rest { glyphs_of result.1.now
         ≡ unwrap_or (option_map (λ p. p.1) (section_of title.now (glyphs_of lexemes.now))) (glyphs_of lexemes.now) }
-    ensures tokens { All IsToken lexemes.now → All IsToken result.0.now × All IsToken result.1.now }
+    ensures tokens { All HasWord lexemes.now → All HasWord result.0.now × All HasWord result.1.now }
 {
     match section(title, lexemes) {
         Some(parts) => parts,
@@ -120,7 +120,7 @@ pub(crate) struct Sections<'s, 'a> {
 pub(crate) fn cut<'s, 'a>(lexemes: &'s [Lexeme<'a>]) -> Option<Sections<'s, 'a>>
     ensures found { IfSome result (IsCut lexemes.now) }
     ensures only { (b : Bodies) → AreBodies b → glyphs_of lexemes.now ≡ assembled b → IsSomeAnd result (λ p. Shows p b) }
-    ensures tokens { All IsToken lexemes.now → IfSome result AreTokens }
+    ensures tokens { All HasWord lexemes.now → IfSome result AreTokens }
 {
     let (ops, rest) = optional_section(b"Ops", lexemes);
     let (vars, rest) = optional_section(b"Vars", rest);

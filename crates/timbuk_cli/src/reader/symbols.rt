@@ -1,19 +1,17 @@
 //! Reads the declarations of symbols.
 ghost use Rattle.std.specs.Prelude.{◌≡◌, ◌≢◌, ℕ, ◌↔◌, List, ◌++◌, All, IsTrue, MatchOption, IfOk, OnOk, IsErrOf, codes, drop};
 ghost use Rattle.timbuk_cli.specs.Vocabulary.{IsName};
-ghost use Rattle.timbuk_cli.specs.Glyphs.{Glyph, mark, glyph_of, glyphs_of, IsToken};
+ghost use Rattle.timbuk_cli.specs.Glyphs.{Glyph, mark, glyph_of, glyphs_of, HasWord};
 ghost use Rattle.timbuk_cli.specs.Source.{SymbolDeclaration, spelled_symbol, spelled_all};
 ghost use Rattle.timbuk_cli.specs.BareText.{value_of, IsArity, AreSymbols};
 ghost use Rattle.timbuk_cli.specs.Reading.{DeclaresSymbol, IsNewSymbol, AddsSymbol, ReadsSymbols};
 
 use crate::reader::SpecError;
+use crate::reader::front::is_mark;
 use crate::reader::names::{name_of, word_of};
 use ranked_terms::{MAX_ARITY, SigError, Signature};
 use std::alloc::Global;
-use timbuk_lex::{Lexeme, TokenKind};
-
-/// The mark between a name and an arity.
-const COLON: &[u8] = b":";
+use timbuk_lex::Lexeme;
 
 /// The largest number of digits of an arity.
 const MAX_DIGITS: usize = 255;
@@ -42,21 +40,14 @@ fn arity_of_digits(text: &str) -> Option<u32>
     Some(arity)
 }
 
-/// Whether the token is a colon.
-fn is_colon(lexeme: &Lexeme) -> bool
-    ensures { IsTrue result ↔ (glyph_of lexeme.now ≡ mark (codes ":")) }
-{
-    matches!(lexeme.kind, TokenKind::Mark) && lexeme.text.as_slice() == COLON
-}
-
 /// The name and the arity that the first tokens declare. `None` exactly where they declare none.
 fn declared_symbol<'a>(lexemes: &[Lexeme<'a>]) -> Option<(&'a str, u32)>
-    requires { All IsToken lexemes.now }
+    requires { All HasWord lexemes.now }
     ensures { MatchOption result
         ((d : SymbolDeclaration) (rest : List Glyph) → IsName d.name → IsArity d.arity → glyphs_of lexemes.now ≢ spelled_symbol d ++ rest)
         (λ s. DeclaresSymbol (glyphs_of lexemes.now) (glyphs_of (drop 3 lexemes.now)) s.0.now s.1) }
 {
-    if lexemes.len() < SYMBOL_TOKENS || !is_colon(&lexemes[1]) {
+    if lexemes.len() < SYMBOL_TOKENS || !is_mark(&lexemes[1], b":") {
         return None;
     }
     let name = name_of(&lexemes[0])?;
@@ -66,7 +57,7 @@ fn declared_symbol<'a>(lexemes: &[Lexeme<'a>]) -> Option<(&'a str, u32)>
 
 /// Adds the symbol that the first tokens declare. `Unread` exactly where they declare none that is new and has room.
 fn add_symbol(signature: &mut Signature, lexemes: &[Lexeme]) -> Result<(), SpecError>
-    requires { All IsToken lexemes.now }
+    requires { All HasWord lexemes.now }
     ensures ok { OnOk result (AddsSymbol (glyphs_of lexemes.now) (glyphs_of (drop 3 lexemes.now)) signature.old signature.new) }
     ensures unread { IsErrOf result SpecError.Unread → (d : SymbolDeclaration) (rest : List Glyph) → IsNewSymbol signature.old d → glyphs_of lexemes.now ≢ spelled_symbol d ++ rest }
 {
@@ -82,7 +73,7 @@ fn add_symbol(signature: &mut Signature, lexemes: &[Lexeme]) -> Result<(), SpecE
 
 /// The signature that the tokens declare. `Unread` exactly where they spell no symbols that may be declared.
 pub(crate) fn read_symbols(alloc: Global, lexemes: &[Lexeme]) -> Result<Signature, SpecError>
-    requires { All IsToken lexemes.now }
+    requires { All HasWord lexemes.now }
     ensures ok { IfOk result (ReadsSymbols (glyphs_of lexemes.now)) }
     ensures unread { IsErrOf result SpecError.Unread → (ds : List SymbolDeclaration) → AreSymbols ds → glyphs_of lexemes.now ≢ spelled_all spelled_symbol ds }
 {

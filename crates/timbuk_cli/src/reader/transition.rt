@@ -1,6 +1,6 @@
 //! Reads transitions.
 ghost use Rattle.std.specs.Prelude.{◌≡◌, ◌≤◌, ◌∷◌, ℕ, List, All, Contains, length, map, MatchOption, IfOk, IsErrOf};
-ghost use Rattle.timbuk_cli.specs.Glyphs.{IsToken};
+ghost use Rattle.timbuk_cli.specs.Glyphs.{HasWord};
 ghost use Rattle.timbuk_cli.specs.Source.{spelled_args, spelled_transition, spelled_all};
 ghost use Rattle.timbuk_cli.specs.BareText.{place_in, transition_of, IsAllowedTransition};
 ghost use Rattle.timbuk_cli.specs.Reads.{Reads, Lacks, AreArguments, spelled_after, spelled_next};
@@ -21,7 +21,7 @@ fn state_after<'s, 'a>(
     lexemes: &'s [Lexeme<'a>],
 ) -> Option<(u32, &'s [Lexeme<'a>])>
     requires few { length states.now ≤ 16384 }
-    requires tokens { All IsToken lexemes.now }
+    requires tokens { All HasWord lexemes.now }
     ensures { MatchOption result (Lacks (spelled_after text.now) (Contains states.now) lexemes.now) (λ found. Reads (spelled_after text.now) (Contains states.now) (place_in states.now) lexemes.now found.0 found.1.now) }
 {
     let rest = after_mark(lexemes, text)?;
@@ -39,7 +39,7 @@ fn read_more<'s, 'a>(
     lexemes: &'s [Lexeme<'a>],
 ) -> Result<(Seq<u32>, &'s [Lexeme<'a>]), SpecError>
     requires few { length states.now ≤ 16384 }
-    requires tokens { All IsToken lexemes.now }
+    requires tokens { All HasWord lexemes.now }
     ensures ok { IfOk result (λ found. Reads (spelled_all spelled_next) (AreArguments states.now count) (λ more. first ∷ map (place_in states.now) more) lexemes.now found.0 found.1.now) }
     ensures unread { IsErrOf result SpecError.Unread → Lacks (spelled_all spelled_next) (AreArguments states.now count) lexemes.now }
 {
@@ -63,7 +63,7 @@ fn read_arguments<'s, 'a>(
     lexemes: &'s [Lexeme<'a>],
 ) -> Result<(Args, &'s [Lexeme<'a>]), SpecError>
     requires few { length states.now ≤ 16384 }
-    requires tokens { All IsToken lexemes.now }
+    requires tokens { All HasWord lexemes.now }
     ensures ok { IfOk result (λ found. Reads spelled_args (AreArguments states.now count) (map (place_in states.now)) lexemes.now found.0 found.1.now) }
     ensures unread { IsErrOf result SpecError.Unread → Lacks spelled_args (AreArguments states.now count) lexemes.now }
 {
@@ -84,7 +84,7 @@ pub(crate) fn read_transition<'s, 'a>(
     lexemes: &'s [Lexeme<'a>],
 ) -> Result<(Trans, &'s [Lexeme<'a>]), SpecError>
     requires few { length states.now ≤ 16384 }
-    requires tokens { All IsToken lexemes.now }
+    requires tokens { All HasWord lexemes.now }
     ensures ok { IfOk result (λ found. Reads spelled_transition (IsAllowedTransition signature.now states.now) (transition_of signature.now states.now) lexemes.now found.0 found.1.now) }
     ensures unread { IsErrOf result SpecError.Unread → Lacks spelled_transition (IsAllowedTransition signature.now states.now) lexemes.now }
 {

@@ -1,6 +1,5 @@
-use Rattle.std.proofs.Common.{◌≡◌, rules, List, ℕ, string_bytes, codes}
-use Rattle.timbuk_cli.specs.Output.{Judges, line}
-use Rattle.timbuk_cli.specs.declared.status.Status.TheVariants.{Unreachable, BadSpec}
+use Rattle.std.proofs.Common.{◌≡◌, rules, string_bytes}
+use Rattle.timbuk_cli.specs.Output.{Judges}
 use Rattle.timbuk_cli.proofs.Verdicts.{said}
 use Rattle.timbuk_cli.proofs.run.answer.Goals as goal
 

@@ -1,4 +1,3 @@
-use Rattle.std.proofs.Common.{◌≡◌, Err}
 use Rattle.timbuk_cli.proofs.Verdicts.{bare_is_safe}
 use Rattle.timbuk_cli.proofs.run.judge.Goals as goal
 use Rattle.timbuk_cli.proofs.run.judge.Goals.{in-Ok, in-Err-Unread, in-Err-Memory}

@@ -3,7 +3,7 @@ ghost use Rattle.std.specs.Prelude.{◌≡◌, ◌≢◌, ◌↔◌, List, ◌++
 ghost use Rattle.std.specs.List.{IsDistinct};
 ghost use Rattle.std.specs.Str.{bytes_eq};
 ghost use Rattle.ranked_terms.specs.Names.{names_of};
-ghost use Rattle.timbuk_cli.specs.Glyphs.{Text, word, glyph_of, glyphs_of, IsToken};
+ghost use Rattle.timbuk_cli.specs.Glyphs.{Text, word, glyph_of, glyphs_of, HasWord};
 ghost use Rattle.timbuk_cli.specs.Source.{spelled_name, spelled_all};
 ghost use Rattle.timbuk_cli.specs.BareText.{AreNewNames};
 ghost use Rattle.timbuk_cli.specs.Reading.{IsNewName, AddsName, IsOneName};
@@ -30,7 +30,7 @@ fn add_name(
     taken: &NameTable,
     limit: usize,
 ) -> Result<(), SpecError>
-    requires { IsToken lexeme.now }
+    requires { HasWord lexeme.now }
     ensures ok { OnOk result (AddsName (glyph_of lexeme.now) (names_of signature.now ++ taken.now) limit table.old table.new) }
     ensures unread { IsErrOf result SpecError.Unread → (name : Text) → IsNewName (names_of signature.now ++ taken.now) limit table.old name → glyph_of lexeme.now ≢ word name }
 {
@@ -56,7 +56,7 @@ pub(crate) fn read_names(
     taken: &NameTable,
     limit: usize,
 ) -> Result<NameTable, SpecError>
-    requires tokens { All IsToken lexemes.now }
+    requires tokens { All HasWord lexemes.now }
     requires distinct { IsDistinct bytes_eq (names_of signature.now ++ taken.now) }
     ensures ok { IfOk result (λ table. (glyphs_of lexemes.now ≡ spelled_all spelled_name table) × AreNewNames (names_of signature.now ++ taken.now) limit table) }
     ensures unread { IsErrOf result SpecError.Unread → (names : List Text) → AreNewNames (names_of signature.now ++ taken.now) limit names → glyphs_of lexemes.now ≢ spelled_all spelled_name names }
@@ -70,7 +70,7 @@ pub(crate) fn read_names(
 
 /// Whether there is one token, and it is a name.
 pub(crate) fn read_title(lexemes: &[Lexeme]) -> bool
-    requires { All IsToken lexemes.now }
+    requires { All HasWord lexemes.now }
     ensures { IsTrue result ↔ IsOneName (glyphs_of lexemes.now) }
 {
     lexemes.len() == 1 && name_of(&lexemes[0]).is_some()

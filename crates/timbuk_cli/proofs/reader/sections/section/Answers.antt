@@ -1,7 +1,7 @@
 use Rattle.std.proofs.Common.{length, arith, ◌<◌, drop, take, ◌-◌, refl, sym, ◌∙◌}
 use Rattle.std.proofs.lemmas.Grind.{common_steps}
 use Rattle.std.proofs.lemmas.List.Elements.{All-take, All-drop}
-use Rattle.timbuk_cli.specs.Glyphs.{IsToken}
+use Rattle.timbuk_cli.specs.Glyphs.{HasWord}
 use Rattle.timbuk_cli.proofs.SectionLaws.{section_here}
 use Rattle.timbuk_cli.proofs.reader.sections.section.Goals as goal
 
@@ -16,5 +16,5 @@ returns-clause-tokens c = λ all.
     let ls = c.args.lexemes.now in
     let rest = take (length ls - 1) (drop 1 ls) in
     let n = c.body_length-length.result in
-    let below = All-take IsToken (length ls - 1) (drop 1 ls) (All-drop IsToken 1 ls all) in
-    (All-take IsToken n rest below, All-take IsToken (length rest - n) (drop n rest) (All-drop IsToken n rest below))
+    let below = All-take HasWord (length ls - 1) (drop 1 ls) (All-drop HasWord 1 ls all) in
+    (All-take HasWord n rest below, All-take HasWord (length rest - n) (drop n rest) (All-drop HasWord n rest below))
