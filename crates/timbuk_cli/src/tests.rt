@@ -40,7 +40,7 @@ struct Case<'a> {
 /// The file of a case.
 fn padded(alloc: Global, case: &Case) -> Result<Vec<u8>, AllocError> {
     let mut file = Vec::from_slice(alloc, case.file)?;
-    while file.len() < case.length {
+    for _ in case.file.len()..case.length {
         file.push(b' ')?;
     }
     Ok(file)
