@@ -116,26 +116,45 @@ fn is_full_at_the_greatest_number(rt: HostRuntime) -> Result<(), Fail> {
     Ok(())
 }
 
+// Whether the transition of this place is this one.
+fn has_at(
+    automaton: &Automaton,
+    alloc: Global,
+    place: usize,
+    sym: u32,
+    args: &[u32],
+    to: u32,
+) -> Result<bool, Fail> {
+    let want = trans(alloc, sym, args, to)?;
+    Ok(automaton.trans().get(place) == Some(&want))
+}
+
 #[test]
 fn keeps_transitions_in_order(rt: HostRuntime) -> Result<(), Fail> {
     let mut automaton = three_states(rt.alloc())?;
-    assert!(rt; add_trans(&mut automaton, 7, &[2, 0], 1)?);
-    assert!(rt; add_trans(&mut automaton, 7, &[1], 2)?);
-    assert!(rt; !add_trans(&mut automaton, 7, &[1], 2)?);
-    let want = [
-        trans(rt.alloc(), 7, &[1], 2)?,
-        trans(rt.alloc(), 7, &[2, 0], 1)?,
-    ];
-    assert_eq!(rt; automaton.trans(), want.as_slice());
+    for (from, to, new) in [(2, 1, true), (1, 2, true), (1, 2, false)] {
+        assert_eq!(rt;
+            add_trans(&mut automaton, 7, &[from, 0], to)?,
+            new,
+            "at {from}"
+        );
+    }
+    for (place, from, to) in [(0, 1, 2), (1, 2, 1)] {
+        assert!(rt;
+            has_at(&automaton, rt.alloc(), place, 7, &[from, 0], to)?,
+            "at {place}"
+        );
+    }
+    assert_eq!(rt; automaton.trans().len(), 2);
     Ok(())
 }
 
 #[test]
 fn adds_no_epsilon_transition_to_itself(rt: HostRuntime) -> Result<(), Fail> {
     let mut automaton = three_states(rt.alloc())?;
-    assert!(rt; add_eps(&mut automaton, 2, 0)?);
-    assert!(rt; !add_eps(&mut automaton, 2, 0)?);
-    assert!(rt; !add_eps(&mut automaton, 1, 1)?);
+    for (from, to, new) in [(2, 0, true), (2, 0, false), (1, 1, false)] {
+        assert_eq!(rt; add_eps(&mut automaton, from, to)?, new, "at {from}");
+    }
     assert_eq!(rt; automaton.eps(), [(2, 0)].as_slice());
     Ok(())
 }
@@ -143,11 +162,18 @@ fn adds_no_epsilon_transition_to_itself(rt: HostRuntime) -> Result<(), Fail> {
 #[test]
 fn keeps_final_states_in_order(rt: HostRuntime) -> Result<(), Fail> {
     let mut automaton = three_states(rt.alloc())?;
-    assert!(rt; set_final(&mut automaton, 2)?);
-    assert!(rt; set_final(&mut automaton, 0)?);
-    assert!(rt; !set_final(&mut automaton, 2)?);
+    for (q, new) in [(2, true), (0, true), (2, false)] {
+        assert_eq!(rt; set_final(&mut automaton, q)?, new, "at {q}");
+    }
     assert_eq!(rt; automaton.finals(), [0, 2].as_slice());
-    assert_eq!(rt; automaton.copy()?.finals(), [0, 2].as_slice());
+    Ok(())
+}
+
+#[test]
+fn copies_an_automaton(rt: HostRuntime) -> Result<(), Fail> {
+    let automaton = three_states(rt.alloc())?;
+    let copy = automaton.copy()?;
+    assert_eq!(rt; copy.states(), [0, 1, 2].as_slice());
     Ok(())
 }
 
@@ -160,19 +186,26 @@ fn adds_many_at_once(rt: HostRuntime) -> Result<(), Fail> {
     Ok(())
 }
 
+// The transitions `4(1) -> 2`, `3 -> 0` and the first again.
+fn three_transitions(alloc: Global) -> Result<Seq<Trans>, AllocError> {
+    let mut all = Seq::new(alloc);
+    all.push(trans(alloc, 4, &[1], 2)?)?;
+    all.push(trans(alloc, 3, &[], 0)?)?;
+    all.push(trans(alloc, 4, &[1], 2)?)?;
+    Ok(all)
+}
+
 #[test]
 fn adds_many_transitions_at_once(rt: HostRuntime) -> Result<(), Fail> {
     let mut automaton = three_states(rt.alloc())?;
-    let mut more = Seq::new(rt.alloc());
-    more.push(trans(rt.alloc(), 4, &[1], 2)?)?;
-    more.push(trans(rt.alloc(), 3, &[], 0)?)?;
-    more.push(trans(rt.alloc(), 4, &[1], 2)?)?;
-    add_all_trans(&mut automaton, more)?;
-    let want = [
-        trans(rt.alloc(), 3, &[], 0)?,
-        trans(rt.alloc(), 4, &[1], 2)?,
-    ];
-    assert_eq!(rt; automaton.trans(), want.as_slice());
+    add_all_trans(&mut automaton, three_transitions(rt.alloc())?)?;
+    assert_eq!(rt; automaton.trans().len(), 2);
+    for (place, sym, args, to) in [(0, 3, &[][..], 0), (1, 4, &[1][..], 2)] {
+        assert!(rt;
+            has_at(&automaton, rt.alloc(), place, sym, args, to)?,
+            "at {place}"
+        );
+    }
     Ok(())
 }
 
