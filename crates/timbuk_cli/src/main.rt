@@ -5,6 +5,9 @@
 //! answer means. [`main`] makes the real files and standard output and calls it.
 #![tactic(auto)]
 
+ghost use Rattle.std.specs.Prelude.{◌≡◌, ◌≢◌};
+ghost use Rattle.std.specs.IoError.{error_kind};
+
 pub mod laws;
 pub mod reader;
 pub mod run;
@@ -29,7 +32,10 @@ fn command_line<R: Env + AllocGlobal>(rt: &R) -> Result<Vec<String>, Error> {
 }
 
 /// The status where there are no words to read: for want of memory, or because one of them is not UTF-8.
-fn refusal(error: &Error) -> Status {
+fn status_without_words(error: &Error) -> Status
+    ensures memory { error_kind error.now ≡ ErrorKind.OutOfMemory → result ≡ Status.Memory }
+    ensures other { error_kind error.now ≢ ErrorKind.OutOfMemory → result ≡ Status.BadWords }
+{
     match error.kind() {
         ErrorKind::OutOfMemory => Status::Memory,
         _ => Status::BadWords,
@@ -43,7 +49,7 @@ fn main(rt: HostRuntime) -> ExitCode {
             let mut out = StdSink::new(&rt);
             run(rt.alloc(), words.as_slice(), &mut shelf, &mut out)
         }
-        Err(error) => refusal(&error),
+        Err(error) => status_without_words(&error),
     };
     ExitCode::from(status.code())
 }
