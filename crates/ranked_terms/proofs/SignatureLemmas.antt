@@ -1,7 +1,7 @@
 -- How the map of a signature stands for its list.
 use Rattle.std.proofs.Common.{◌≡◌, ◌≢◌, ℕ, suc, ◌+◌, ◌≤◌, false, not, nat_lt, cond, List, [], ◌∷◌, ◌++◌, length, position, Option, Some, None, String, string_bytes, refl, sym, ap, subst, ◌∙◌, is_some, All, length-append, arith}
 use Rattle.std.specs.Global.{Global}
-use Rattle.std.specs.List.{IsDistinct, AllByRecursion, position_or_len}
+use Rattle.std.specs.List.{IsDistinct, AllByRecursion, AllZip, position_or_len}
 use Rattle.std.specs.Map.{keys_of}
 use Rattle.std.specs.Str.{bytes_eq}
 use Rattle.std.specs.String.{string_eq}
@@ -75,3 +75,12 @@ IsSignature-added s t name arity h e d room n a = record {
   distinct = d;
   symbols = subst (All IsSymbol) (sym e) (All-push IsSymbol s (name, arity) h.symbols (record { name = n; arity = a }));
 }
+
+-- a clone of the map has the same symbols
+pub symbols_of-clone : (es fs : List Entry) → AllZip (λ e f. (string_bytes f.0 ≡ string_bytes e.0) × (f.1 ≡ e.1)) es fs → symbols_of fs ≡ symbols_of es
+symbols_of-clone [] [] h = refl
+symbols_of-clone [] (f ∷ fs) h = absurd h
+symbols_of-clone (e ∷ es) [] h = absurd h
+symbols_of-clone (e ∷ es) (f ∷ fs) h =
+    let rest = symbols_of-clone es fs h.1 in
+    λ i. (h.0.0 i, h.0.1 i) ∷ rest i

@@ -34,6 +34,18 @@ height_step t = greatest t.args + 1
 abbrev pub height_of : Term → ℕ
 height_of = fold-Term ℕ height_step
 
+-- how deep the symbols with arguments are nested in a pattern
+abbrev pub nesting_at : List ℕ → ℕ
+nesting_at [] = 0
+nesting_at (n ∷ ns) = greatest (n ∷ ns) + 1
+
+abbrev pub nesting_step : pattern.Pattern-F ℕ → ℕ
+nesting_step (pattern.Var v) = 0
+nesting_step (pattern.App sym args) = nesting_at args
+
+abbrev pub nesting_of : Pattern → ℕ
+nesting_of = fold-Pattern ℕ nesting_step
+
 -- ---- over a signature
 
 -- the signature has the symbol with this arity

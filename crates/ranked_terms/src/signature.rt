@@ -103,6 +103,16 @@ impl Signature {
         Ok(number)
     }
 
+    /// An equal signature. The only error is want of memory.
+    pub fn copy(&self) -> Result<Signature, AllocError>
+        ensures { IfOk result (λ copy. copy ≡ self.now) }
+    {
+        Ok(Signature {
+            alloc: self.alloc,
+            symbols: self.symbols.clone()?,
+        })
+    }
+
     /// The number of the symbol of this name, the only one that has it. `None` exactly where there is none.
     pub fn find(&self, name: &str) -> Option<u32>
         ensures value { result ≡ number_of self.now name.now }

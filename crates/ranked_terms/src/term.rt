@@ -1,5 +1,8 @@
 //! Ground terms, patterns and configurations.
+ghost use Rattle.std.specs.Prelude.{◌≡◌, IfOk};
+
 use crate::seq::Seq;
+use std::alloc::{AllocError, Global};
 
 /// A ground term: a symbol applied to ground terms, as many as its arity says (TATA, section 1.1).
 #[derive(Debug, Drop, PartialEq, Eq, Hash)]
@@ -10,6 +13,22 @@ pub struct Term {
     pub args: Seq<Term>,
 }
 
+impl Term {
+    /// An equal term. The only error is want of memory.
+    pub fn copy(&self, alloc: Global) -> Result<Term, AllocError>
+        ensures { IfOk result (λ copy. copy ≡ self.now) }
+    {
+        let mut args = Seq::new(alloc);
+        for arg in self.args.as_slice() {
+            args.push(arg.copy(alloc)?)?;
+        }
+        Ok(Term {
+            sym: self.sym,
+            args,
+        })
+    }
+}
+
 /// A term whose leaves may be variables: a side of a rule or of an equation.
 #[derive(Debug, Drop, PartialEq, Eq, Hash)]
 pub enum Pattern {
@@ -17,6 +36,24 @@ pub enum Pattern {
     Var(u32),
     /// A symbol, by its number, and its arguments.
     App(u32, Seq<Pattern>),
+}
+
+impl Pattern {
+    /// An equal pattern. The only error is want of memory.
+    pub fn copy(&self, alloc: Global) -> Result<Pattern, AllocError>
+        ensures { IfOk result (λ copy. copy ≡ self.now) }
+    {
+        match self {
+            Pattern::Var(var) => Ok(Pattern::Var(*var)),
+            Pattern::App(sym, args) => {
+                let mut copies = Seq::new(alloc);
+                for arg in args.as_slice() {
+                    copies.push(arg.copy(alloc)?)?;
+                }
+                Ok(Pattern::App(*sym, copies))
+            }
+        }
+    }
 }
 
 /// A term whose leaves may be states of an automaton, which is what an automaton runs on (TATA, section 1.1).

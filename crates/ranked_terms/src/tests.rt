@@ -106,3 +106,27 @@ fn terms_are_compared_whole(rt: HostRuntime) -> Result<(), Fail> {
     laws::of_patterns();
     Ok(())
 }
+
+#[test]
+fn copies_are_equal(rt: HostRuntime) -> Result<(), Fail> {
+    let term = pair(rt.alloc(), 1, 2)?;
+    assert!(rt; term.copy(rt.alloc())? == term);
+    let mut args = Seq::new(rt.alloc());
+    args.push(Pattern::Var(3))?;
+    args.push(Pattern::App(1, Seq::new(rt.alloc())))?;
+    let pattern = Pattern::App(2, args);
+    assert!(rt; pattern.copy(rt.alloc())? == pattern);
+    Ok(())
+}
+
+#[test]
+fn a_copy_of_a_signature_numbers_alike(rt: HostRuntime) -> Result<(), Fail> {
+    let mut signature = Signature::new(rt.alloc());
+    let _ = signature.add("plus", 2)?;
+    let _ = signature.add("0", 0)?;
+    let copy = signature.copy()?;
+    assert_eq!(rt; copy.len(), 2);
+    assert_eq!(rt; copy.find("0"), Some(1));
+    assert_eq!(rt; copy.arity(0), Some(2));
+    Ok(())
+}

@@ -3,3 +3,12 @@ pub mod Members
 pub mod Orders
 pub mod Keys
 pub mod RunsLaws
+pub mod Factor
+pub mod Closure
+pub mod OpenPairs
+pub mod Ascending
+pub mod Lookups
+pub mod ReachedSets
+pub mod RunStates
+pub mod Containment
+pub mod Acceptance

@@ -5,3 +5,8 @@ pub mod Languages
 pub mod Laws
 pub mod SpecRules
 pub mod Reachability
+pub mod Closure
+pub mod ClosureLaws
+pub mod Reached
+pub mod Acceptance
+pub mod AcceptanceLaws

@@ -109,6 +109,11 @@ impl Automaton {
         })
     }
 
+    /// Where the automaton's lists grow.
+    pub(crate) fn alloc(&self) -> Global {
+        self.alloc
+    }
+
     /// The states in ascending order.
     pub fn states(&self) -> &[u32]
         ensures value { result.now ≡ self.now.states }

@@ -1,4 +1,6 @@
 //! Laws of runs. Each function does nothing: its contract is the law.
+ghost use Rattle.ta_core.specs.AcceptanceLaws.{ContainedKeepsRuns, ContainedKeepsAccepted, ContainsItself, AcceptedTermsAreOver, AcceptedIsSafe};
+ghost use Rattle.ta_core.specs.ClosureLaws.{InstancesFactor, InstancesCompose, ClosedKeepsRuns, ClosedAcceptsReached, ClosedByLists, ClosedHasNoOpenPair, OpenPairsAreOne, TriplesAreAll, TriplesAscend};
 ghost use Rattle.ta_core.specs.Laws.{RunsAreClosed, HasEachRun, PlainRunsAreRuns, PlainRunsUseNoEpsilon, RunsAreMonotone, RunsEndInStates};
 
 use std::marker::Brand;
@@ -48,4 +50,49 @@ pub fn runs_are_monotone()
 /// What runs to `q` shows that `q` is a state of the automaton.
 pub fn runs_end_in_states()
     ensures { RunsEndInStates }
+{}
+
+/// A run of an instance of a linear pattern goes by way of states for its variables, to which their terms run; and such
+/// states make a run of the instance of any pattern (Feuillade, Genet and Viet Triem Tong, JAR 2004).
+pub fn runs_of_instances_factor()
+    ensures factor { InstancesFactor }
+    ensures compose { InstancesCompose }
+{}
+
+/// In an automaton that is closed under left-linear rules, what runs to a state still does after any number of steps, so
+/// whatever an accepted term rewrites to is accepted (Feuillade, Genet and Viet Triem Tong, JAR 2004).
+pub fn closed_automata_accept_what_is_reached()
+    ensures runs { ClosedKeepsRuns }
+    ensures accepts { ClosedAcceptsReached }
+{}
+
+/// An automaton is closed exactly where its list of open pairs is empty, and it has one such list at most. The triples
+/// that the list is chosen from are all triples, and the assignments of a rule are all lists of so many states.
+/// Where the states ascend, the triples ascend by rule, then by assignment, and then by state.
+pub fn closed_automata_have_no_open_pair()
+    ensures none { ClosedHasNoOpenPair }
+    ensures lists { ClosedByLists }
+    ensures one { OpenPairsAreOne }
+    ensures all { TriplesAreAll }
+    ensures order { TriplesAscend }
+{}
+
+/// What runs to a state of an automaton runs, in one that contains it, to the state that it goes to; so its language is
+/// contained. Each automaton contains itself.
+pub fn contained_automata_keep_runs()
+    ensures runs { ContainedKeepsRuns }
+    ensures accepted { ContainedKeepsAccepted }
+    ensures itself { ContainsItself }
+{}
+
+/// What an automaton over a signature accepts is over the signature.
+pub fn accepted_terms_are_over()
+    ensures { AcceptedTermsAreOver }
+{}
+
+/// Where an automaton contains the initial one, is closed under the rules and misses the forbidden language, no term that
+/// is reachable from the initial language, in whatever number of steps, is forbidden (Feuillade, Genet and Viet Triem
+/// Tong, JAR 2004).
+pub fn accepted_automata_are_safe()
+    ensures { AcceptedIsSafe }
 {}

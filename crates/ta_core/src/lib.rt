@@ -7,10 +7,14 @@
 mod args;
 mod automaton;
 pub mod laws;
+mod lookup;
 mod map;
 mod options;
+mod reached;
+mod runs;
 mod sorted;
 mod spec;
+mod state_set;
 mod trans;
 
 pub use args::Args;
@@ -18,6 +22,7 @@ pub use automaton::{Automaton, MAX_STATES, StateError};
 pub use map::Map;
 pub use options::Options;
 pub use spec::Spec;
+pub use state_set::StateSet;
 pub use trans::Trans;
 
 #[cfg(test)]

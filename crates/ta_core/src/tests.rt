@@ -2,8 +2,8 @@
 ghost use Rattle.std.specs.Prelude.{All, Contains, IsTrue};
 ghost use Rattle.ta_core.specs.TreeAutomaton.{IsTransOf};
 
-use crate::{Args, Automaton, Map, Options, StateError, Trans};
-use ranked_terms::Seq;
+use crate::{Args, Automaton, Map, Options, StateError, StateSet, Trans};
+use ranked_terms::{Config, Seq, Term};
 use std::alloc::{AllocError, Global};
 use std::test::Fail;
 
@@ -205,6 +205,111 @@ fn adds_many_transitions_at_once(rt: HostRuntime) -> Result<(), Fail> {
             has_at(&automaton, rt.alloc(), place, sym, args, to)?,
             "at {place}"
         );
+    }
+    Ok(())
+}
+
+// The transitions `0 -> 0`, `1(0) -> 1`, `2(1, 0) -> 2` and `1(5) -> 5`, and the epsilon transitions `2 -> 3` and
+// `3 -> 4`, of which 4 is final. No ground term runs to 5.
+fn six_states(alloc: Global) -> Result<Automaton, Fail> {
+    let mut automaton = Automaton::with_states(alloc, 6, &[0, 1, 2, 3, 4, 5])?;
+    for (sym, args, to) in [
+        (0, &[][..], 0),
+        (1, &[0][..], 1),
+        (2, &[1, 0][..], 2),
+        (1, &[5][..], 5),
+    ] {
+        let _ = add_trans(&mut automaton, sym, args, to)?;
+    }
+    for (from, to) in [(2, 3), (3, 4)] {
+        let _ = add_eps(&mut automaton, from, to)?;
+    }
+    let _ = set_final(&mut automaton, 4)?;
+    Ok(automaton)
+}
+
+// The configurations and terms `0`, `1(arg)` and `2(left, right)`.
+fn constant(alloc: Global) -> Config {
+    Config::App(0, Seq::new(alloc))
+}
+
+fn unary(alloc: Global, arg: Config) -> Result<Config, AllocError> {
+    Ok(Config::App(1, Seq::from_vec(Vec::from_array(alloc, [arg])?)))
+}
+
+fn binary(alloc: Global, left: Config, right: Config) -> Result<Config, AllocError> {
+    Ok(Config::App(2, Seq::from_vec(Vec::from_array(alloc, [left, right])?)))
+}
+
+fn constant_term(alloc: Global) -> Term {
+    Term {
+        sym: 0,
+        args: Seq::new(alloc),
+    }
+}
+
+fn unary_term(alloc: Global, arg: Term) -> Result<Term, AllocError> {
+    Ok(Term {
+        sym: 1,
+        args: Seq::from_vec(Vec::from_array(alloc, [arg])?),
+    })
+}
+
+fn binary_term(alloc: Global, left: Term, right: Term) -> Result<Term, AllocError> {
+    Ok(Term {
+        sym: 2,
+        args: Seq::from_vec(Vec::from_array(alloc, [left, right])?),
+    })
+}
+
+#[test]
+fn runs_a_state_along_epsilon_transitions(rt: HostRuntime) -> Result<(), Fail> {
+    let automaton = six_states(rt.alloc())?;
+    for (state, all) in [(2, &[2, 3, 4][..]), (0, &[0][..]), (9, &[][..])] {
+        let run = automaton.run_states(&Config::State(state))?;
+        assert_eq!(rt; run.as_slice(), all, "at {state}");
+        let closure = automaton.eps_closure(state)?;
+        assert_eq!(rt; closure.as_slice(), all, "from {state}");
+    }
+    Ok(())
+}
+
+#[test]
+fn runs_nested_arguments(rt: HostRuntime) -> Result<(), Fail> {
+    let alloc = rt.alloc();
+    let automaton = six_states(alloc)?;
+    let nested = binary(alloc, unary(alloc, constant(alloc))?, constant(alloc))?;
+    assert_eq!(rt; automaton.run_states(&nested)?.as_slice(), [2, 3, 4].as_slice());
+    let stuck = binary(alloc, constant(alloc), constant(alloc))?;
+    assert_eq!(rt; automaton.run_states(&stuck)?.as_slice(), [].as_slice());
+    Ok(())
+}
+
+#[test]
+fn runs_from_a_state_that_no_term_runs_to(rt: HostRuntime) -> Result<(), Fail> {
+    let automaton = six_states(rt.alloc())?;
+    let config = unary(rt.alloc(), Config::State(5))?;
+    assert_eq!(rt; automaton.run_states(&config)?.as_slice(), [5].as_slice());
+    Ok(())
+}
+
+#[test]
+fn accepts_what_runs_to_a_final_state(rt: HostRuntime) -> Result<(), Fail> {
+    let alloc = rt.alloc();
+    let automaton = six_states(alloc)?;
+    let inner = unary_term(alloc, constant_term(alloc))?;
+    assert_eq!(rt; automaton.accepts(&inner)?, false);
+    let nested = binary_term(alloc, inner, constant_term(alloc))?;
+    assert_eq!(rt; automaton.accepts(&nested)?, true);
+    Ok(())
+}
+
+#[test]
+fn finds_the_members_of_a_set(rt: HostRuntime) -> Result<(), Fail> {
+    let set = StateSet::from_slice(rt.alloc(), &[1, 4, 7])?;
+    assert_eq!(rt; set.as_slice(), [1, 4, 7].as_slice());
+    for (state, member) in [(1, true), (4, true), (7, true), (0, false), (5, false)] {
+        assert_eq!(rt; set.contains(state), member, "at {state}");
     }
     Ok(())
 }

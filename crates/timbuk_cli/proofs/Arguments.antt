@@ -5,7 +5,7 @@ use Rattle.std.proofs.lemmas.List.Elements.{All-cons, All-tail}
 use Rattle.timbuk_lex.specs.declared.lexeme.Lexeme.{Lexeme}
 use Rattle.timbuk_cli.specs.Glyphs.{Text, Glyph, word, mark, glyphs_of, HasWord}
 use Rattle.timbuk_cli.specs.Source.{spelled_args, spelled_more, spelled_all}
-use Rattle.timbuk_cli.specs.BareText.{place_in}
+use Rattle.timbuk_cli.specs.SpecText.{place_in}
 use Rattle.timbuk_cli.specs.Reads.{Reads, Lacks, ReadsSome, FollowsMark, LacksMark, AreArguments, spelled_after, spelled_next}
 use Rattle.timbuk_cli.proofs.Fronts.{same_tail}
 use Rattle.timbuk_cli.proofs.Decoding.{Decodes, rest_at, left_of, lacks_in_front, reads_push_at}

@@ -2,7 +2,7 @@
 use Rattle.std.proofs.Common.{◌≡◌, ℕ, ◌+◌, ◌-◌, ◌*◌, ◌<◌, ◌≤◌, List, [], ◌∷◌, take, drop, length, get_or, fold, sym, ap, ◌∙◌, arith}
 use Rattle.std.proofs.lemmas.List.{take-append-drop}
 use Rattle.std.proofs.lemmas.List.Sums.{fold-append, fold_more}
-use Rattle.timbuk_cli.specs.BareText.{value_of, IsArity}
+use Rattle.timbuk_cli.specs.SpecText.{value_of, IsArity}
 
 abbrev push : ℕ → ℕ → ℕ
 push n d = n * 10 + (d - 48)

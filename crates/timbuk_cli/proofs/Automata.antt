@@ -19,7 +19,7 @@ use Rattle.ta_core.specs.declared.trans.Trans.{Trans}
 use Rattle.timbuk_lex.specs.declared.lexeme.Lexeme.{Lexeme}
 use Rattle.timbuk_cli.specs.Glyphs.{Text, word}
 use Rattle.timbuk_cli.specs.Source.{TransitionDeclaration, spelled_name, spelled_transition}
-use Rattle.timbuk_cli.specs.BareText.{place_in, transition_of, IsAllowedTransition, IsAscendingSet}
+use Rattle.timbuk_cli.specs.SpecText.{place_in, transition_of, IsAllowedTransition, IsAscendingSet}
 use Rattle.timbuk_cli.specs.Reads.{ReadsAll, ReadsAutomaton}
 use Rattle.timbuk_cli.proofs.Fronts.{same_tail, below_from_position}
 use Rattle.timbuk_cli.proofs.Decoding.{Decodes}

@@ -1,7 +1,7 @@
 -- The search for `(*`.
 use Rattle.std.proofs.Common.{◌≡◌, ◌≢◌, ◌⊎◌, inl, inr, ℕ, zero, suc, ◌+◌, ◌<◌, ◌==◌, ◌&&◌, ◌||◌, Bool, true, false, List, [], ◌∷◌, length, drop, get_or, refl, arith}
 use Rattle.std.proofs.lemmas.Bool.{ne_eqb}
-use Rattle.timbuk_cli.specs.BareText.{has_comment}
+use Rattle.timbuk_cli.specs.SpecText.{has_comment}
 
 pub comment_here : (bs : List ℕ) (i j : ℕ) → j ≡ suc i → j < length bs → get_or bs i 0 ≡ 40 → get_or bs j 0 ≡ 42 → has_comment (drop i bs) ≡ true
 comment_here [] i j e h p q = absurd (omega arith)

@@ -1,5 +1,5 @@
--- From the parts of a bare text to its specification, and back.
-use Rattle.std.proofs.Common.{◌≡◌, ◌≢◌, ℕ, ◌<◌, List, [], ◌∷◌, ◌++◌, Some, Result, Ok, Err, IfOk, length, false, refl, sym, ap, subst, ◌∙◌, arith, length-append}
+-- From the parts of a text to its specification, and back.
+use Rattle.std.proofs.Common.{◌≡◌, ◌≢◌, ℕ, ◌<◌, List, [], ◌∷◌, ◌++◌, Option, Some, unwrap_or, Result, Ok, Err, IfOk, length, false, refl, sym, ap, subst, ◌∙◌, arith, length-append}
 use Rattle.std.proofs.lemmas.List.{append-nil}
 use Rattle.std.specs.List.{All, Contains}
 use Rattle.ranked_terms.specs.Names.{Symbol, names_of}
@@ -9,15 +9,15 @@ use Rattle.timbuk_lex.specs.Lexing.{lexed}
 use Rattle.timbuk_lex.specs.declared.lex.Ending.TheVariants.{Whole}
 use Rattle.timbuk_lex.specs.declared.lexeme.Lexeme.{Lexeme}
 use Rattle.timbuk_cli.specs.declared.reader.sections.Sections.{Sections}
-use Rattle.timbuk_cli.specs.Glyphs.{Text, Glyph, glyphs_of}
-use Rattle.timbuk_cli.specs.Source.{SymbolDeclaration, TransitionDeclaration, Source, symbols_in, variables_in, spelled_symbol, spelled_name, spelled_all}
-use Rattle.timbuk_cli.specs.BareText.{BareText, IsAllowed, Declares, AreNewNames, IsAllowedTransition, Numbers, signature_of, has_comment}
+use Rattle.timbuk_cli.specs.Glyphs.{Text, Glyph, word, glyphs_of}
+use Rattle.timbuk_cli.specs.Source.{SymbolDeclaration, RuleDeclaration, TransitionDeclaration, Source, symbols_in, variables_in, signature_of, signature_in, spelled_symbol, spelled_name, spelled_rule, spelled_all}
+use Rattle.timbuk_cli.specs.SpecText.{SpecText, IsAllowed, Declares, AreNewNames, AreRules, IsAllowedTransition, Numbers, has_comment}
 use Rattle.timbuk_cli.specs.Sections.{IsCut}
 use Rattle.timbuk_cli.specs.Reading.{ReadsSymbols, IsOneName}
-use Rattle.timbuk_cli.specs.Reads.{ReadsAutomaton, LacksAutomaton}
+use Rattle.timbuk_cli.specs.Reads.{ReadsTitle, ReadsRules, LacksRules, ReadsAutomaton, LacksAutomaton}
 use Rattle.timbuk_cli.specs.Parts.{PartsSpell, ReadsParts}
-use Rattle.timbuk_cli.proofs.Spelling.{IsDecodable, symbols-decodable, names-decodable}
-use Rattle.timbuk_cli.proofs.SourceCut.{whole_spells}
+use Rattle.timbuk_cli.proofs.Spelling.{IsDecodable, same_glyphs, symbols-decodable, names-decodable}
+use Rattle.timbuk_cli.proofs.SourceCut.{with_optional, whole_spells}
 
 -- ---- one spelling, one list of declarations
 
@@ -35,6 +35,11 @@ same_all spelled h (d ∷ ds) (x ∷ es) e =
 
 -- ---- a part that is refused has no declarations
 
+-- what stands behind the title of the system
+behind_title : (p : Sections) (source : Source) (rest : List Lexeme) → PartsSpell p source → ReadsTitle p.system.now rest → glyphs_of rest ≡ spelled_all (spelled_rule (signature_in source) (variables_in source)) source.rules
+behind_title p source rest spell title =
+    (same_glyphs (word title.title) (word source.system) (glyphs_of rest) (spelled_all (spelled_rule (signature_in source) (variables_in source)) source.rules) (sym title.glyphs ∙ spell.system)).1
+
 module _ (p : Sections) (source : Source) (allowed : IsAllowed source) (spell : PartsSpell p source) (signature : List Symbol) (reads : ReadsSymbols (glyphs_of p.ops.now) signature) where
   same_signature : signature ≡ signature_of (symbols_in source)
   same_signature = reads.numbered ∙ ap signature_of (same_all spelled_symbol symbols-decodable reads.declarations (symbols_in source) (sym reads.tokens ∙ spell.ops))
@@ -47,6 +52,12 @@ module _ (p : Sections) (source : Source) (allowed : IsAllowed source) (spell : 
   module _ (vars : List Text) (vars_are : glyphs_of p.vars.now ≡ spelled_all spelled_name vars) where
     same_variables : vars ≡ variables_in source
     same_variables = same_all spelled_name names-decodable vars (variables_in source) (sym vars_are ∙ spell.vars)
+
+    pub no_rules : (rest : List Lexeme) → ReadsTitle p.system.now rest → LacksRules signature vars rest → ⊥
+    no_rules rest title lacks =
+        lacks.none source.rules
+        (subst (λ sig. AreRules sig (length vars) source.rules) (sym same_signature) (subst (λ vs. AreRules (signature_in source) (length vs) source.rules) (sym same_variables) allowed.rules))
+        (behind_title p source rest spell title ∙ (λ i. spelled_all (spelled_rule (sym same_signature i) (sym same_variables i)) source.rules))
 
     pub no_states : ((names : List Text) → AreNewNames (names_of signature ++ vars) 16384 names → glyphs_of p.states.now ≢ spelled_all spelled_name names) → ⊥
     no_states unread =
@@ -63,35 +74,37 @@ module _ (p : Sections) (source : Source) (allowed : IsAllowed source) (spell : 
 
 -- ---- parts that are read declare what was read
 
-abbrev read_source : List SymbolDeclaration → List Text → Text → Text → List Text → List Text → List TransitionDeclaration → Source
-read_source symbols variables system automaton states finals transitions = record {
+abbrev read_source : List SymbolDeclaration → List Text → Text → List RuleDeclaration → Text → List Text → List Text → List TransitionDeclaration → Source
+read_source symbols variables system rules automaton states finals transitions = record {
   ops = Some symbols;
   vars = Some variables;
   system = system;
+  rules = rules;
   automaton = automaton;
   states = states;
   finals = finals;
   transitions = transitions;
 }
 
-pub parts_read : (p : Sections) (spec : Spec) (vars states none : List Text)
-    → IsOneName (glyphs_of p.system.now) → IsOneName (glyphs_of p.automaton.now)
+pub parts_read : (p : Sections) (spec : Spec) (rest : List Lexeme) (vars states none : List Text)
+    → ReadsTitle p.system.now rest → IsOneName (glyphs_of p.automaton.now)
     → ReadsSymbols (glyphs_of p.ops.now) spec.signature
     → none ≡ []
     → (glyphs_of p.vars.now ≡ spelled_all spelled_name vars) × AreNewNames (names_of spec.signature ++ none) 1024 vars
+    → ReadsRules spec.signature vars rest spec.rules
     → (glyphs_of p.states.now ≡ spelled_all spelled_name states) × AreNewNames (names_of spec.signature ++ vars) 16384 states
     → ReadsAutomaton spec.signature states p.finals.now p.transitions.now spec.initial
-    → spec.vars ≡ vars → spec.rules ≡ [] → spec.equations ≡ [] → spec.entries ≡ [] → spec.extra ≡ 0 → spec.approximated ≡ false → spec.forbidden ≡ bare 0 []
+    → spec.vars ≡ vars → spec.equations ≡ [] → spec.entries ≡ [] → spec.extra ≡ 0 → spec.approximated ≡ false → spec.forbidden ≡ bare 0 []
     → ReadsParts p spec
-parts_read p spec vars states none system automaton symbols is variables named reads vars_are rules equations entries extra approximated forbidden =
-    let source = read_source symbols.declarations vars system.name automaton.name states reads.names reads.declarations in
+parts_read p spec rest vars states none system automaton symbols is variables rules named reads vars_are equations entries extra approximated forbidden =
+    let source = read_source symbols.declarations vars system.title rules.declarations automaton.name states reads.names reads.declarations in
     let taken : names_of spec.signature ++ none ≡ names_of (signature_of symbols.declarations) = ap (λ ns. names_of spec.signature ++ ns) is ∙ append-nil (names_of spec.signature) ∙ ap names_of symbols.numbered in
     record {
       source = source;
       spelled = record {
         ops = symbols.tokens;
         vars = variables.0;
-        system = system.token;
+        system = system.glyphs ∙ (λ i. word system.title ∷ (rules.glyphs ∙ ap (λ sig. spelled_all (spelled_rule sig vars) rules.declarations) symbols.numbered) i);
         automaton = automaton.token;
         states = named.0;
         finals = reads.spelled_finals;
@@ -101,6 +114,7 @@ parts_read p spec vars states none system automaton symbols is variables named r
         titles = (system.named, automaton.named);
         symbols = symbols.allowed;
         variables = subst (λ ns. AreNewNames ns 1024 vars) taken variables.1;
+        rules = subst (λ sig. AreRules sig (length vars) rules.declarations) symbols.numbered rules.allowed;
         states = subst (λ sig. AreNewNames (names_of sig ++ vars) 16384 states) symbols.numbered named.1;
         finals = reads.are_states;
         transitions = subst (λ sig. All (IsAllowedTransition sig states) reads.declarations) symbols.numbered reads.are_allowed;
@@ -108,7 +122,7 @@ parts_read p spec vars states none system automaton symbols is variables named r
       declares = record {
         signature = symbols.numbered;
         vars = vars_are;
-        rules = rules;
+        rules = rules.are;
         equations = equations;
         entries = entries;
         extra = extra;
@@ -120,19 +134,19 @@ parts_read p spec vars states none system automaton symbols is variables named r
 
 -- ---- declarations that differ in what is left out alone
 
-module _ (a b : Source) (symbols : symbols_in a ≡ symbols_in b) (variables : variables_in a ≡ variables_in b) (system : a.system ≡ b.system) (automaton : a.automaton ≡ b.automaton)
-    (states : a.states ≡ b.states) (finals : a.finals ≡ b.finals) (transitions : a.transitions ≡ b.transitions) where
-  same_allowed : IsAllowed b → IsAllowed a
+module _ (source : Source) (ops : Option (List SymbolDeclaration)) (vars : Option (List Text)) (symbols : unwrap_or ops [] ≡ symbols_in source) (variables : unwrap_or vars [] ≡ variables_in source) where
+  same_allowed : IsAllowed source → IsAllowed (with_optional source ops vars)
   same_allowed h = record {
-    titles = rw (system, automaton) h.titles;
+    titles = h.titles;
     symbols = rw symbols h.symbols;
     variables = rw (symbols, variables) h.variables;
-    states = rw (symbols, variables, states) h.states;
-    finals = rw (states, finals) h.finals;
-    transitions = rw (symbols, states, transitions) h.transitions;
+    rules = rw (symbols, variables) h.rules;
+    states = rw (symbols, variables) h.states;
+    finals = h.finals;
+    transitions = rw symbols h.transitions;
   }
 
-  same_declares : (spec : Spec) → Declares b spec → Declares a spec
+  same_declares : (spec : Spec) → Declares source spec → Declares (with_optional source ops vars) spec
   same_declares spec h = record {
     signature = h.signature ∙ ap signature_of (sym symbols);
     vars = h.vars ∙ sym variables;
@@ -141,22 +155,21 @@ module _ (a b : Source) (symbols : symbols_in a ≡ symbols_in b) (variables : v
     entries = h.entries;
     extra = h.extra;
     approximated = h.approximated;
-    initial = rw (symbols, states, finals, transitions) h.initial;
+    initial = rw symbols h.initial;
     forbidden = h.forbidden;
   }
 
--- the parts of a text without comments that is cut whole are a bare text
-pub bare_from_parts : (bytes : List ℕ) (lexemes : List Lexeme) (p : Sections) (spec : Spec) → has_comment bytes ≡ false → (lexed bytes).ending ≡ Whole → lexemes ≡ (lexed bytes).tokens → IsCut lexemes p → ReadsParts p spec → BareText bytes spec
-bare_from_parts bytes lexemes p spec plain whole are cut parts =
-    let s = parts.source in
-    let w = whole_spells lexemes p (symbols_in s) (variables_in s) s.system s.automaton s.states s.finals s.transitions cut parts.spelled.ops parts.spelled.vars parts.spelled.system parts.spelled.automaton parts.spelled.states parts.spelled.finals parts.spelled.transitions in
+-- the parts of a text without comments that is cut whole spell a specification
+pub spec_from_parts : (bytes : List ℕ) (lexemes : List Lexeme) (p : Sections) (spec : Spec) → has_comment bytes ≡ false → (lexed bytes).ending ≡ Whole → lexemes ≡ (lexed bytes).tokens → IsCut lexemes p → ReadsParts p spec → SpecText bytes spec
+spec_from_parts bytes lexemes p spec plain whole are cut parts =
+    let w = whole_spells lexemes p parts.source cut parts.spelled in
     record {
-      source = w.source;
+      source = with_optional parts.source w.ops w.vars;
       plain = plain;
       whole = whole;
       tokens = ap glyphs_of (sym are) ∙ w.tokens;
-      allowed = same_allowed w.source s w.symbols_are w.variables_are w.system_is w.automaton_is w.states_are w.finals_are w.transitions_are parts.allowed;
-      declares = same_declares w.source s w.symbols_are w.variables_are w.system_is w.automaton_is w.states_are w.finals_are w.transitions_are spec parts.declares;
+      allowed = same_allowed parts.source w.ops w.vars w.symbols_are w.variables_are parts.allowed;
+      declares = same_declares parts.source w.ops w.vars w.symbols_are w.variables_are spec parts.declares;
     }
 
 -- a fact of each answer from another

@@ -10,7 +10,7 @@ use Rattle.std.proofs.lemmas.Slice.Eq.{bytes_eq-Decides}
 use Rattle.timbuk_lex.specs.declared.lexeme.Lexeme.{Lexeme}
 use Rattle.timbuk_cli.specs.Glyphs.{Text, Glyph, word, mark, glyph_of, glyphs_of, HasWord}
 use Rattle.timbuk_cli.specs.Source.{spelled_name}
-use Rattle.timbuk_cli.specs.BareText.{place_in}
+use Rattle.timbuk_cli.specs.SpecText.{place_in}
 use Rattle.timbuk_cli.specs.Reads.{Reads, Lacks, FollowsMark, AnyText}
 
 -- ---- lists of glyphs

@@ -1,5 +1,6 @@
 pub mod Arguments
 pub mod Arities
+pub mod AscendingSets
 pub mod Automata
 pub mod Comments
 pub mod Composition
@@ -8,11 +9,16 @@ pub mod Errors
 pub mod Fronts
 pub mod NameTables
 pub mod NewNames
+pub mod OneSpec
+pub mod PatternSpelling
 pub mod ReadNames
 pub mod ReadSymbols
+pub mod RuleSpelling
+pub mod SameSpec
 pub mod SectionLaws
 pub mod SourceBodies
 pub mod SourceCut
 pub mod Spelling
 pub mod Transitions
 pub mod Verdicts
+pub mod Closing

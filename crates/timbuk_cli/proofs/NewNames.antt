@@ -13,7 +13,7 @@ use Rattle.ranked_terms.specs.Names.{names_of, number_of}
 use Rattle.timbuk_cli.specs.Vocabulary.{IsName}
 use Rattle.timbuk_cli.specs.Glyphs.{Text}
 use Rattle.timbuk_cli.specs.Source.{SymbolDeclaration}
-use Rattle.timbuk_cli.specs.BareText.{value_of, signature_of, IsArity, AreSymbols, AreNewNames}
+use Rattle.timbuk_cli.specs.SpecText.{value_of, signature_of, IsArity, AreSymbols, AreNewNames}
 use Rattle.timbuk_cli.specs.Reading.{IsNewSymbol, IsNewName}
 
 -- ---- whether a name is among names

@@ -4,7 +4,7 @@ use Rattle.std.proofs.lemmas.List.{drop_more}
 use Rattle.timbuk_lex.specs.declared.lexeme.Lexeme.{Lexeme}
 use Rattle.timbuk_cli.specs.Glyphs.{Text, word, glyph_of, glyphs_of}
 use Rattle.timbuk_cli.specs.Source.{spelled_name, spelled_all}
-use Rattle.timbuk_cli.specs.BareText.{AreNewNames}
+use Rattle.timbuk_cli.specs.SpecText.{AreNewNames}
 use Rattle.timbuk_cli.specs.Reading.{IsNewName, AddsName}
 use Rattle.timbuk_cli.proofs.Spelling.{names-decodable, Next-from_all, spelled_all-more}
 use Rattle.timbuk_cli.proofs.NewNames.{IsNewName-middle, AreNewNames-push}

@@ -6,7 +6,7 @@ use Rattle.ranked_terms.specs.Names.{Symbol, number_of}
 use Rattle.timbuk_lex.specs.declared.lexeme.Lexeme.{Lexeme}
 use Rattle.timbuk_cli.specs.Glyphs.{Text, Glyph, glyph_of, glyphs_of, HasWord}
 use Rattle.timbuk_cli.specs.Source.{SymbolDeclaration, spelled_symbol, spelled_all}
-use Rattle.timbuk_cli.specs.BareText.{value_of, signature_of, AreSymbols}
+use Rattle.timbuk_cli.specs.SpecText.{value_of, signature_of, AreSymbols}
 use Rattle.timbuk_cli.specs.Reading.{DeclaresSymbol, IsNewSymbol, AddsSymbol}
 use Rattle.timbuk_cli.proofs.Spelling.{symbols-decodable, Next-from_all, spelled_all-more}
 use Rattle.timbuk_cli.proofs.NewNames.{IsNewSymbol-middle, AreSymbols-push, signature_of-append}

@@ -1,27 +1,33 @@
 -- The declarations of a text are bodies below section words, and where they are allowed no section goes on into the next.
-use Rattle.std.proofs.Common.{◌≡◌, ℕ, zero, suc, Bool, true, false, List, [], ◌∷◌, ◌++◌, length, Option, Some, None, unwrap_or, option_map, refl, sym, ap, subst, ◌∙◌, true≢false}
+use Rattle.std.proofs.Common.{◌≡◌, ℕ, zero, suc, ◌<◌, Bool, true, false, List, [], ◌∷◌, ◌++◌, length, map, Option, Some, None, unwrap_or, option_map, refl, sym, ap, subst, ◌∙◌, true≢false}
 use Rattle.std.specs.Prelude.{All, Contains, codes}
-use Rattle.std.specs.List.{list_all, list_any}
+use Rattle.std.specs.List.{AllByRecursion, list_all, list_any, slice_get}
 use Rattle.std.specs.Str.{bytes_eq}
 use Rattle.std.specs.Char.{is_ascii_digit}
-use Rattle.std.proofs.lemmas.List.Elements.{All-head, All-tail, All-contains, All-weaker}
-use Rattle.std.proofs.lemmas.Option.{option_and_then_some}
+use Rattle.std.proofs.lemmas.List.{take_at, drop_at}
+use Rattle.std.proofs.lemmas.List.Elements.{All-head, All-tail, All-take, All-drop, All-contains, All-weaker}
+use Rattle.std.proofs.lemmas.Option.{option_and_then_some, slice_get-get_or}
 use Rattle.std.proofs.lemmas.Slice.Eq.{bytes_eq-Decides}
-use Rattle.ranked_terms.specs.Names.{number_of, arity_of, name_of}
+use Rattle.ranked_terms.specs.Names.{Symbol, number_of, arity_of, name_of}
+use Rattle.ranked_terms.specs.Terms.{is_symbol, pattern_is_over, joined, occurrences}
+use Rattle.ranked_terms.specs.declared.term.Pattern.{Pattern}
+use Rattle.ranked_terms.specs.declared.term.Pattern.TheVariants.{Var, App}
 use Rattle.ranked_terms.proofs.SignatureLaws.{name_of-number_of}
+use Rattle.ranked_terms.proofs.TermLaws.{occurrences_var, occurrences_app, pattern_is_over_app, pattern_induction}
 use Rattle.timbuk_cli.specs.Vocabulary.{is_reserved, section_words, closed_words, IsName}
 use Rattle.timbuk_cli.specs.Glyphs.{Text, Glyph, word, mark}
-use Rattle.timbuk_cli.specs.Source.{SymbolDeclaration, TransitionDeclaration, Source, symbols_in, variables_in, spelled_symbol, spelled_more, spelled_args, spelled_name, spelled_transition, spelled_all, spelled}
-use Rattle.timbuk_cli.specs.BareText.{IsArity, IsAllowedTransition, IsAllowed, signature_of}
+use Rattle.timbuk_cli.specs.Source.{SymbolDeclaration, RuleDeclaration, TransitionDeclaration, Source, symbols_in, variables_in, signature_in, spelled_symbol, spelled_more, spelled_args, spelled_name, spelled_more_patterns, spelled_patterns, spelled_pattern, spelled_rule, spelled_transition, spelled_all, spelled}
+use Rattle.timbuk_cli.specs.SpecText.{IsArity, IsAllowedRule, IsAllowedTransition, IsAllowed, signature_of}
 use Rattle.timbuk_cli.specs.Sections.{IsBody, Bodies, AreBodies, assembled}
-use Rattle.timbuk_cli.proofs.SectionLaws.{neither, IsBody-append, IsBody-word}
+use Rattle.timbuk_cli.proofs.PatternSpelling.{spelled_var, spelled_app}
+use Rattle.timbuk_cli.proofs.SectionLaws.{neither, both, IsBody-append, IsBody-word}
 
 -- what stands below each section word
 abbrev pub bodies_of : Source → Bodies
 bodies_of source = record {
   ops = option_map (spelled_all spelled_symbol) source.ops;
   vars = option_map (spelled_all spelled_name) source.vars;
-  system = word source.system ∷ [];
+  system = word source.system ∷ spelled_all (spelled_rule (signature_in source) (variables_in source)) source.rules;
   automaton = word source.automaton ∷ [];
   states = spelled_all spelled_name source.states;
   finals = spelled_all spelled_name source.finals;
@@ -106,6 +112,71 @@ pub allowed_transition_free : (ds : List SymbolDeclaration) (states : List Text)
 allowed_transition_free ds states t symbols all h =
     transition_free t (head_name ds states t symbols h) (state_names states t.args all h.args) (state_name states t.target all h.target)
 
+-- ---- patterns
+
+all_left : {X : Type 0} (P : X → Type 0) (xs ys : List X) → All P (xs ++ ys) → All P xs
+all_left P xs ys h = subst (All P) (take_at xs ys (length xs) refl) (All-take P (length xs) (xs ++ ys) h)
+
+all_right : {X : Type 0} (P : X → Type 0) (xs ys : List X) → All P (xs ++ ys) → All P ys
+all_right P xs ys h = subst (All P) (drop_at xs ys (length xs) refl) (All-drop P (length xs) (xs ++ ys) h)
+
+-- the name of a symbol of the signature
+symbol_name : (ds : List SymbolDeclaration) (f count : ℕ) → All (λ d. IsName d.name) ds → is_symbol (signature_of ds) f count ≡ true → IsName (unwrap_or (name_of (signature_of ds) f) [])
+symbol_name [] f count all e = absurd (true≢false (sym e))
+symbol_name (d ∷ ds) zero count all e = All-head (λ x. IsName x.name) d ds all
+symbol_name (d ∷ ds) (suc f) count all e = symbol_name ds f count (All-tail (λ x. IsName x.name) d ds all) e
+
+-- the name of a variable that is numbered
+variable_name : (variables : List Text) (v : ℕ) → All IsName variables → v < length variables → IsName (unwrap_or (slice_get variables v) [])
+variable_name variables v all l = rw (slice_get-get_or variables v [] l) (all v [] l)
+
+module _ (ds : List SymbolDeclaration) (variables : List Text) (symbols : All (λ d. IsName d.name) ds) (named : All IsName variables) where
+  abbrev signature : List Symbol
+  signature = signature_of ds
+
+  abbrev spelling : Pattern → List Glyph
+  spelling = spelled_pattern signature variables
+
+  abbrev IsNumbered : ℕ → Type 0
+  IsNumbered v = v < length variables
+
+  abbrev IsFree : Pattern → Type 0
+  IsFree p = pattern_is_over signature p ≡ true → All IsNumbered (occurrences p) → IsBody (spelling p)
+
+  more_patterns_free : (ps : List Pattern) → AllByRecursion IsFree ps → list_all (pattern_is_over signature) ps ≡ true → All IsNumbered (joined (map occurrences ps)) → IsBody (spelled_more_patterns (map spelling ps))
+  more_patterns_free [] each over numbered = refl
+  more_patterns_free (p ∷ ps) each over numbered =
+      let parts = both (pattern_is_over signature p) (list_all (pattern_is_over signature) ps) over in
+      IsBody-append (spelling p) (spelled_more_patterns (map spelling ps))
+      (each.0 parts.0 (all_left IsNumbered (occurrences p) (joined (map occurrences ps)) numbered))
+      (more_patterns_free ps each.1 parts.1 (all_right IsNumbered (occurrences p) (joined (map occurrences ps)) numbered))
+
+  patterns_free : (ps : List Pattern) → AllByRecursion IsFree ps → list_all (pattern_is_over signature) ps ≡ true → All IsNumbered (joined (map occurrences ps)) → IsBody (spelled_patterns (map spelling ps))
+  patterns_free [] each over numbered = refl
+  patterns_free (p ∷ ps) each over numbered = more_patterns_free (p ∷ ps) each over numbered
+
+  variable_free : (v : ℕ) → IsFree (Var v)
+  variable_free v over numbered =
+      let first = All-head IsNumbered v [] (subst (All IsNumbered) (occurrences_var v) numbered) in
+      subst IsBody (sym (spelled_var signature variables v)) (IsBody-word (unwrap_or (slice_get variables v) []) [] (variable_name variables v named first).free refl)
+
+  application_free : (f : ℕ) (ps : List Pattern) → AllByRecursion IsFree ps → IsFree (App f ps)
+  application_free f ps each over numbered =
+      let parts = both (is_symbol signature f (length ps)) (list_all (pattern_is_over signature) ps) (sym (pattern_is_over_app signature f ps) ∙ over) in
+      let below = patterns_free ps each parts.1 (subst (All IsNumbered) (occurrences_app f ps) numbered) in
+      subst IsBody (sym (spelled_app signature variables f ps)) (IsBody-word (unwrap_or (name_of signature f) []) (spelled_patterns (map spelling ps)) (symbol_name ds f (length ps) symbols parts.0).free below)
+
+  pattern_free : (p : Pattern) → IsFree p
+  pattern_free = pattern_induction IsFree variable_free application_free
+
+  allowed_rule_free : (d : RuleDeclaration) → IsAllowedRule signature (length variables) d → IsBody (spelled_rule signature variables d)
+  allowed_rule_free d h =
+      IsBody-append (spelling d.left) (mark (codes "->") ∷ spelling d.right)
+      (pattern_free d.left h.left.symbols h.left.variables) (pattern_free d.right h.right.symbols h.right.variables)
+
+  pub rules_free : (rules : List RuleDeclaration) → All (IsAllowedRule signature (length variables)) rules → IsBody (spelled_all (spelled_rule signature variables) rules)
+  rules_free rules allowed = spelled_all-free (spelled_rule signature variables) (IsAllowedRule signature (length variables)) allowed_rule_free rules allowed
+
 -- ---- the parts
 
 pub names_free : (names : List Text) → All IsName names → IsBody (spelled_all spelled_name names)
@@ -128,7 +199,8 @@ pub bodies_of-free : (source : Source) → IsAllowed source → AreBodies (bodie
 bodies_of-free source h = record {
   ops = optional_free spelled_symbol source.ops (symbols_free (symbols_in source) h.symbols.names h.symbols.arities);
   vars = optional_free spelled_name source.vars (names_free (variables_in source) h.variables.names);
-  system = name_free source.system h.titles.0;
+  system = IsBody-word source.system (spelled_all (spelled_rule (signature_in source) (variables_in source)) source.rules) h.titles.0.free
+      (rules_free (symbols_in source) (variables_in source) h.symbols.names h.variables.names source.rules h.rules.allowed);
   automaton = name_free source.automaton h.titles.1;
   states = names_free source.states h.states.names;
   finals = names_free source.finals (state_names source.states source.finals h.states.names h.finals);

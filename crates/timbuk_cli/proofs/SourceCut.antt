@@ -4,8 +4,8 @@ use Rattle.std.specs.Option.{IsSomeAnd}
 use Rattle.timbuk_lex.specs.declared.lexeme.Lexeme.{Lexeme}
 use Rattle.timbuk_cli.specs.declared.reader.sections.Sections.{Sections}
 use Rattle.timbuk_cli.specs.Glyphs.{Text, Glyph, word, glyphs_of}
-use Rattle.timbuk_cli.specs.Source.{SymbolDeclaration, TransitionDeclaration, Source, symbols_in, variables_in, spelled_symbol, spelled_name, spelled_transition, spelled_all, spelled}
-use Rattle.timbuk_cli.specs.BareText.{IsAllowed}
+use Rattle.timbuk_cli.specs.Source.{SymbolDeclaration, Source, symbols_in, variables_in, signature_of, signature_in, spelled_symbol, spelled_name, spelled_rule, spelled_all, spelled}
+use Rattle.timbuk_cli.specs.SpecText.{IsAllowed}
 use Rattle.timbuk_cli.specs.Sections.{Bodies, AreBodies, assembled, Shows, IsCut}
 use Rattle.timbuk_cli.specs.Parts.{PartsSpell}
 use Rattle.timbuk_cli.proofs.SourceBodies.{bodies_of, bodies_of-free}
@@ -55,61 +55,42 @@ pub cut_spells : (lexemes : List Lexeme) (result : Option Sections) → ((b : Bo
 cut_spells lexemes None only source allowed e = only (bodies_of source) (bodies_of-free source allowed) e
 cut_spells lexemes (Some p) only source allowed e = parts_spell p source (only (bodies_of source) (bodies_of-free source allowed) e)
 
--- a text that spells these declarations
-pub record SpellsWhole (lexemes : List Lexeme) (symbols : List SymbolDeclaration) (variables : List Text) (system automaton : Text) (states finals : List Text) (transitions : List TransitionDeclaration) : Type 0 where
-  pub source : Source
-  pub tokens : glyphs_of lexemes ≡ spelled source
-  pub symbols_are : symbols_in source ≡ symbols
-  pub variables_are : variables_in source ≡ variables
-  pub system_is : source.system ≡ system
-  pub automaton_is : source.automaton ≡ automaton
-  pub states_are : source.states ≡ states
-  pub finals_are : source.finals ≡ finals
-  pub transitions_are : source.transitions ≡ transitions
+-- the same declarations, with these sections that may be left out
+abbrev pub with_optional : Source → Option (List SymbolDeclaration) → Option (List Text) → Source
+with_optional source ops vars = record source { ops = ops; vars = vars }
 
-abbrev source_at : Bodies → List SymbolDeclaration → List Text → Text → Text → List Text → List Text → List TransitionDeclaration → Source
-source_at b symbols variables system automaton states finals transitions = record {
-  ops = declared_at b.ops symbols;
-  vars = declared_at b.vars variables;
-  system = system;
-  automaton = automaton;
-  states = states;
-  finals = finals;
-  transitions = transitions;
-}
+-- a text that spells these declarations, whether or not an empty section stands in it
+pub record SpellsWhole (lexemes : List Lexeme) (source : Source) : Type 0 where
+  pub ops : Option (List SymbolDeclaration)
+  pub vars : Option (List Text)
+  pub tokens : glyphs_of lexemes ≡ spelled (with_optional source ops vars)
+  pub symbols_are : unwrap_or ops [] ≡ symbols_in source
+  pub variables_are : unwrap_or vars [] ≡ variables_in source
 
 -- where each part spells declarations, the whole text does
-pub whole_spells : (lexemes : List Lexeme) (p : Sections) (symbols : List SymbolDeclaration) (variables : List Text) (system automaton : Text) (states finals : List Text) (transitions : List TransitionDeclaration)
-    → IsCut lexemes p
-    → glyphs_of p.ops.now ≡ spelled_all spelled_symbol symbols
-    → glyphs_of p.vars.now ≡ spelled_all spelled_name variables
-    → glyphs_of p.system.now ≡ word system ∷ []
-    → glyphs_of p.automaton.now ≡ word automaton ∷ []
-    → glyphs_of p.states.now ≡ spelled_all spelled_name states
-    → glyphs_of p.finals.now ≡ spelled_all spelled_name finals
-    → glyphs_of p.transitions.now ≡ spelled_all spelled_transition transitions
-    → SpellsWhole lexemes symbols variables system automaton states finals transitions
-whole_spells lexemes p symbols variables system automaton states finals transitions cut e1 e2 e3 e4 e5 e6 e7 =
+pub whole_spells : (lexemes : List Lexeme) (p : Sections) (source : Source) → IsCut lexemes p → PartsSpell p source → SpellsWhole lexemes source
+whole_spells lexemes p source cut parts =
     let b = cut.bodies in
-    let ops : unwrap_or b.ops [] ≡ spelled_all spelled_symbol symbols = sym cut.shown.ops ∙ e1 in
-    let vars : unwrap_or b.vars [] ≡ spelled_all spelled_name variables = sym cut.shown.vars ∙ e2 in
-    let ops_at = spelled_at spelled_symbol b.ops symbols ops in
-    let vars_at = spelled_at spelled_name b.vars variables vars in
-    let system_at = sym e3 ∙ cut.shown.system in
-    let automaton_at = sym e4 ∙ cut.shown.automaton in
-    let states_at = sym e5 ∙ cut.shown.states in
-    let finals_at = sym e6 ∙ cut.shown.finals in
-    let transitions_at = sym e7 ∙ cut.shown.transitions in
-    let same : bodies_of (source_at b symbols variables system automaton states finals transitions) ≡ b =
+    let ops : unwrap_or b.ops [] ≡ spelled_all spelled_symbol (symbols_in source) = sym cut.shown.ops ∙ parts.ops in
+    let vars : unwrap_or b.vars [] ≡ spelled_all spelled_name (variables_in source) = sym cut.shown.vars ∙ parts.vars in
+    let symbols_are = declared_by spelled_symbol b.ops (symbols_in source) (no_symbols (symbols_in source)) ops in
+    let variables_are = declared_by spelled_name b.vars (variables_in source) (no_names (variables_in source)) vars in
+    let ops_at = spelled_at spelled_symbol b.ops (symbols_in source) ops in
+    let vars_at = spelled_at spelled_name b.vars (variables_in source) vars in
+    let rules_at : spelled_all (spelled_rule (signature_of (unwrap_or (declared_at b.ops (symbols_in source)) [])) (unwrap_or (declared_at b.vars (variables_in source)) [])) source.rules
+    ≡ spelled_all (spelled_rule (signature_in source) (variables_in source)) source.rules =
+    λ i. spelled_all (spelled_rule (signature_of (symbols_are i)) (variables_are i)) source.rules in
+    let system_at = ap (λ rules. word source.system ∷ rules) rules_at ∙ (sym parts.system ∙ cut.shown.system) in
+    let automaton_at = sym parts.automaton ∙ cut.shown.automaton in
+    let states_at = sym parts.states ∙ cut.shown.states in
+    let finals_at = sym parts.finals ∙ cut.shown.finals in
+    let transitions_at = sym parts.transitions ∙ cut.shown.transitions in
+    let same : bodies_of (with_optional source (declared_at b.ops (symbols_in source)) (declared_at b.vars (variables_in source))) ≡ b =
     λ i. record { ops = ops_at i; vars = vars_at i; system = system_at i; automaton = automaton_at i; states = states_at i; finals = finals_at i; transitions = transitions_at i } in
     record {
-      source = source_at b symbols variables system automaton states finals transitions;
+      ops = declared_at b.ops (symbols_in source);
+      vars = declared_at b.vars (variables_in source);
       tokens = cut.whole ∙ ap assembled (sym same);
-      symbols_are = declared_by spelled_symbol b.ops symbols (no_symbols symbols) ops;
-      variables_are = declared_by spelled_name b.vars variables (no_names variables) vars;
-      system_is = refl;
-      automaton_is = refl;
-      states_are = refl;
-      finals_are = refl;
-      transitions_are = refl;
+      symbols_are = symbols_are;
+      variables_are = variables_are;
     }

@@ -1,8 +1,8 @@
 -- Spellings that can be read in one way only.
-use Rattle.std.proofs.Common.{◌≡◌, ◌≢◌, ◌<◌, List, [], ◌∷◌, ◌++◌, length, refl, sym, ap, ◌∙◌, append_assoc, length-append, codes, arith}
+use Rattle.std.proofs.Common.{◌≡◌, ◌≢◌, ◌<◌, List, [], ◌∷◌, ◌++◌, length, slice_index, refl, sym, ap, ◌∙◌, append_assoc, length-append, codes, arith}
 use Rattle.std.proofs.lemmas.List.{append-nil}
 use Rattle.timbuk_cli.specs.Glyphs.{Text, Glyph, word, mark}
-use Rattle.timbuk_cli.specs.Source.{SymbolDeclaration, spelled_symbol, spelled_name, spelled_all}
+use Rattle.timbuk_cli.specs.Source.{SymbolDeclaration, TransitionDeclaration, spelled_symbol, spelled_name, spelled_more, spelled_args, spelled_transition, spelled_all}
 
 -- a spelling that is never empty, and says where it ends
 pub record IsDecodable {D : Type 0} (spelled : D → List Glyph) : Type 0 where
@@ -94,3 +94,49 @@ same_names d e r s h =
 
 pub names-decodable : IsDecodable spelled_name
 names-decodable = record { same = same_names; some = λ d. omega arith }
+
+-- ---- the spelling of a transition
+
+-- a mark is told from another by its first character
+apart : (a b : Text) → slice_index a 0 ≢ slice_index b 0 → mark a ≢ mark b
+apart a b other e = other (ap (λ (g : Glyph). slice_index g.1 0) e)
+
+pub same_more : (a b : List Text) (r s : List Glyph) → spelled_more a ++ r ≡ spelled_more b ++ s → (a ≡ b) × (r ≡ s)
+same_more [] [] r s e = (refl, (same_glyphs (mark (codes ")")) (mark (codes ")")) r s e).1)
+same_more [] (y ∷ b) r s e =
+    absurd (apart (codes ")") (codes ",") (λ h. omega arith) (same_glyphs (mark (codes ")")) (mark (codes ",")) r (word y ∷ (spelled_more b ++ s)) e).0)
+same_more (x ∷ a) [] r s e =
+    absurd (apart (codes ",") (codes ")") (λ h. omega arith) (same_glyphs (mark (codes ",")) (mark (codes ")")) (word x ∷ (spelled_more a ++ r)) s e).0)
+same_more (x ∷ a) (y ∷ b) r s e =
+    let comma = same_glyphs (mark (codes ",")) (mark (codes ",")) (word x ∷ (spelled_more a ++ r)) (word y ∷ (spelled_more b ++ s)) e in
+    let first = same_glyphs (word x) (word y) (spelled_more a ++ r) (spelled_more b ++ s) comma.1 in
+    let rest = same_more a b r s first.1 in
+    (λ i. same_word x y first.0 i ∷ rest.0 i, rest.1)
+
+-- the arguments end at the arrow
+same_args : (a b : List Text) (r s : List Glyph) → spelled_args a ++ (mark (codes "->") ∷ r) ≡ spelled_args b ++ (mark (codes "->") ∷ s) → (a ≡ b) × (r ≡ s)
+same_args [] [] r s e = (refl, (same_glyphs (mark (codes "->")) (mark (codes "->")) r s e).1)
+same_args [] (y ∷ b) r s e =
+    absurd (apart (codes "->") (codes "(") (λ h. omega arith) (same_glyphs (mark (codes "->")) (mark (codes "(")) r (word y ∷ (spelled_more b ++ (mark (codes "->") ∷ s))) e).0)
+same_args (x ∷ a) [] r s e =
+    absurd (apart (codes "(") (codes "->") (λ h. omega arith) (same_glyphs (mark (codes "(")) (mark (codes "->")) (word x ∷ (spelled_more a ++ (mark (codes "->") ∷ r))) s e).0)
+same_args (x ∷ a) (y ∷ b) r s e =
+    let open_mark = same_glyphs (mark (codes "(")) (mark (codes "(")) (word x ∷ (spelled_more a ++ (mark (codes "->") ∷ r))) (word y ∷ (spelled_more b ++ (mark (codes "->") ∷ s))) e in
+    let first = same_glyphs (word x) (word y) (spelled_more a ++ (mark (codes "->") ∷ r)) (spelled_more b ++ (mark (codes "->") ∷ s)) open_mark.1 in
+    let rest = same_more a b (mark (codes "->") ∷ r) (mark (codes "->") ∷ s) first.1 in
+    (λ i. same_word x y first.0 i ∷ rest.0 i, (same_glyphs (mark (codes "->")) (mark (codes "->")) r s rest.1).1)
+
+same_transition : (d e : TransitionDeclaration) → d.head ≡ e.head → d.args ≡ e.args → d.target ≡ e.target → d ≡ e
+same_transition d e h a t = λ i. record { head = h i; args = a i; target = t i }
+
+same_transitions : (d e : TransitionDeclaration) (r s : List Glyph) → spelled_transition d ++ r ≡ spelled_transition e ++ s → (d ≡ e) × (r ≡ s)
+same_transitions d e r s h =
+    let arrow_d = mark (codes "->") ∷ word d.target ∷ [] in
+    let arrow_e = mark (codes "->") ∷ word e.target ∷ [] in
+    let a = same_glyphs (word d.head) (word e.head) ((spelled_args d.args ++ arrow_d) ++ r) ((spelled_args e.args ++ arrow_e) ++ s) h in
+    let b = same_args d.args e.args (word d.target ∷ r) (word e.target ∷ s) (sym (append_assoc (spelled_args d.args) arrow_d r) ∙ (a.1 ∙ append_assoc (spelled_args e.args) arrow_e s)) in
+    let c = same_glyphs (word d.target) (word e.target) r s b.1 in
+    (same_transition d e (same_word d.head e.head a.0) b.0 (same_word d.target e.target c.0), c.1)
+
+pub transitions-decodable : IsDecodable spelled_transition
+transitions-decodable = record { same = same_transitions; some = λ d. omega arith }

@@ -8,26 +8,20 @@ use Rattle.ta_core.specs.TreeAutomaton.{trans_of}
 use Rattle.timbuk_lex.specs.declared.lexeme.Lexeme.{Lexeme}
 use Rattle.timbuk_cli.specs.Glyphs.{Text, Glyph, word, mark, glyphs_of}
 use Rattle.timbuk_cli.specs.Source.{TransitionDeclaration, spelled_name, spelled_more, spelled_args, spelled_transition}
-use Rattle.timbuk_cli.specs.BareText.{place_in, transition_of, IsAllowedTransition}
+use Rattle.timbuk_cli.specs.SpecText.{place_in, transition_of, IsAllowedTransition}
 use Rattle.timbuk_cli.specs.Reads.{Reads, Lacks, AreArguments, spelled_after}
 use Rattle.timbuk_cli.proofs.Fronts.{same_tail, same_word, contains_from_position, place_from_position, missing_from_position}
 use Rattle.timbuk_cli.proofs.Decoding.{Decodes}
+use Rattle.timbuk_cli.proofs.Spelling.{same_more, transitions-decodable}
 
 -- ---- spellings
-
-same_more : (a b : List Text) (r s : List Glyph) → length a ≡ length b → spelled_more a ++ r ≡ spelled_more b ++ s → r ≡ s
-same_more [] [] r s n e = same_tail (mark (codes ")")) (mark (codes ")")) r s e
-same_more [] (y ∷ b) r s n e = absurd (omega (arith, n))
-same_more (x ∷ a) [] r s n e = absurd (omega (arith, n))
-same_more (x ∷ a) (y ∷ b) r s n e =
-    same_more a b r s (omega (arith, n)) (same_tail (word x) (word y) (spelled_more a ++ r) (spelled_more b ++ s) (same_tail (mark (codes ",")) (mark (codes ",")) (word x ∷ (spelled_more a ++ r)) (word y ∷ (spelled_more b ++ s)) e))
 
 same_args : (a b : List Text) (r s : List Glyph) → length a ≡ length b → spelled_args a ++ r ≡ spelled_args b ++ s → r ≡ s
 same_args [] [] r s n e = e
 same_args [] (y ∷ b) r s n e = absurd (omega (arith, n))
 same_args (x ∷ a) [] r s n e = absurd (omega (arith, n))
 same_args (x ∷ a) (y ∷ b) r s n e =
-    same_more a b r s (omega (arith, n)) (same_tail (word x) (word y) (spelled_more a ++ r) (spelled_more b ++ s) (same_tail (mark (codes "(")) (mark (codes "(")) (word x ∷ (spelled_more a ++ r)) (word y ∷ (spelled_more b ++ s)) e))
+    (same_more a b r s (same_tail (word x) (word y) (spelled_more a ++ r) (spelled_more b ++ s) (same_tail (mark (codes "(")) (mark (codes "(")) (word x ∷ (spelled_more a ++ r)) (word y ∷ (spelled_more b ++ s)) e))).1
 
 -- ---- names with a number
 
@@ -67,15 +61,8 @@ module _ (signature : List Symbol) (states : List Text) where
 
   pub Decodes-transition : Decodes spelled_transition Allowed
   Decodes-transition = record {
-    some = λ d. omega arith;
-    same = λ d e r s okd oke eq.
-        let tail = append_assoc (spelled_args d.args) (mark (codes "->") ∷ word d.target ∷ []) r in
-        let whole : (word d.head ∷ (spelled_args d.args ++ (mark (codes "->") ∷ word d.target ∷ r)) ≡ spelled_transition e ++ s) = ap (λ z. word d.head ∷ z) (sym tail) ∙ eq in
-        let head = same_head (spelled_args d.args ++ (mark (codes "->") ∷ word d.target ∷ r)) d.head e s whole in
-        let args = behind_head (spelled_args d.args ++ (mark (codes "->") ∷ word d.target ∷ r)) d.head e s whole in
-        let count : length d.args ≡ length e.args = same_Some (length d.args) (length e.args) (sym (arity_at_head d okd) ∙ (ap (λ t. arity_of signature (place_in (names_of signature) t)) head ∙ arity_at_head e oke)) in
-        let arrows = same_args d.args e.args (mark (codes "->") ∷ word d.target ∷ r) (mark (codes "->") ∷ word e.target ∷ s) count args in
-        same_tail (word d.target) (word e.target) r s (same_tail (mark (codes "->")) (mark (codes "->")) (word d.target ∷ r) (word e.target ∷ s) arrows);
+    some = transitions-decodable.some;
+    same = λ d e r s _ _ h. (transitions-decodable.same d e r s h).1;
   }
 
   module _ (xs ys : List Lexeme) (symbol : ℕ) (r : Reads spelled_name (Contains (names_of signature)) (place_in (names_of signature)) xs symbol ys) where

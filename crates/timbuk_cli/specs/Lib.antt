@@ -2,7 +2,8 @@ pub mod Vocabulary
 pub mod Glyphs
 pub mod Source
 pub mod Sections
-pub mod BareText
+pub mod SpecText
+pub mod Laws
 pub mod Words
 pub mod Output
 pub mod Codes
@@ -10,3 +11,4 @@ pub mod NameTables
 pub mod Reading
 pub mod Parts
 pub mod Reads
+pub mod Closing

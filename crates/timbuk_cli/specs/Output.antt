@@ -3,12 +3,14 @@ use Rattle.std.specs.Prelude.{◌≡◌, ◌⊎◌, ℕ, ◌≤◌, ◌<◌, Lis
 use Rattle.std.specs.Io.KnownBytes.{Appends, Keeps}
 use Rattle.ranked_terms.specs.declared.term.Term.{Term}
 use Rattle.ta_core.specs.declared.spec.Spec.{Spec}
+use Rattle.ta_core.specs.Languages.{Accepts}
+use Rattle.ta_core.specs.Closure.{Closed}
 use Rattle.ta_core.specs.Reachability.{Reachable, Forbidden}
 use Rattle.timbuk_cli.specs.Glyphs.{Text}
 use Rattle.timbuk_cli.specs.Words.{file_of}
-use Rattle.timbuk_cli.specs.BareText.{BareText}
+use Rattle.timbuk_cli.specs.SpecText.{SpecText}
 use Rattle.timbuk_cli.specs.declared.status.Status.{Status}
-use Rattle.timbuk_cli.specs.declared.status.Status.TheVariants.{Unreachable, BadWords, BadSpec, TooLong, ReadFault, WriteFault, Memory}
+use Rattle.timbuk_cli.specs.declared.status.Status.TheVariants.{Unreachable, Undecided, BadWords, BadSpec, TooLong, ReadFault, WriteFault, Memory}
 
 -- the largest number of bytes of a specification
 abbrev pub limit : ℕ
@@ -16,19 +18,35 @@ limit = 1048576
 
 -- ---- what is said of a file
 
--- the bytes are a specification, and whatever is reachable by its rules, in whatever number of steps, is not forbidden
+-- the bytes are a specification whose initial automaton is closed under its rules; it accepts whatever is reachable by them, in whatever number of
+-- steps, and no such term is forbidden
 pub record IsSafe (bytes : List ℕ) : Type 0 where
   pub spec : Spec
-  pub text : BareText bytes spec
+  pub text : SpecText bytes spec
+  pub closed : Closed spec.initial spec.rules
+  pub accepted : (t : Term) → Reachable spec t → Accepts spec.initial t
   pub safe : (t : Term) → Reachable spec t → Forbidden spec t → ⊥
+
+-- the bytes are a specification whose initial automaton isn't closed under its rules
+pub record IsUnsettled (bytes : List ℕ) : Type 0 where
+  pub spec : Spec
+  pub text : SpecText bytes spec
+  pub open_rules : Closed spec.initial spec.rules → ⊥
 
 -- the bytes are no specification
 abbrev pub IsNoSpec : List ℕ → Type 0
-IsNoSpec bytes = (spec : Spec) → BareText bytes spec → ⊥
+IsNoSpec bytes = (spec : Spec) → SpecText bytes spec → ⊥
+
+-- the status of a specification
+abbrev pub Decides : Spec → Status → Type 0
+Decides spec Unreachable = Closed spec.initial spec.rules
+Decides spec Undecided = Closed spec.initial spec.rules → ⊥
+Decides spec _ = ⊥
 
 -- the status that the bytes of a file have
 abbrev pub Judges : List ℕ → Status → Type 0
 Judges bytes Unreachable = IsSafe bytes
+Judges bytes Undecided = IsUnsettled bytes
 Judges bytes BadSpec = IsNoSpec bytes
 Judges bytes _ = ⊥
 
@@ -39,6 +57,7 @@ line text = text ++ 10 ∷ []
 -- bytes that no clause knows. `rose` says that the file's count of faults rose.
 abbrev pub Says : Text → Option (List ℕ) → Type 0 → Text → Status → Type 0
 Says name given rose text Unreachable = IfSome given (λ bytes. (length bytes ≤ limit) × Judges bytes Unreachable) × (text ≡ line (codes "Verdict unreachable"))
+Says name given rose text Undecided = IfSome given (λ bytes. (length bytes ≤ limit) × Judges bytes Undecided) × (text ≡ line (codes "Verdict undecided"))
 Says name given rose text BadSpec = IfSome given (λ bytes. (length bytes ≤ limit) × Judges bytes BadSpec) × (text ≡ line (codes "Bad specification"))
 Says name given rose text TooLong = IfSome given (λ bytes. limit < length bytes) × (text ≡ line (codes "Too long " ++ name))
 Says name given rose text ReadFault = rose × (text ≡ line (codes "Cannot read " ++ name))
@@ -73,4 +92,5 @@ pub record Answers (words : List Text) (given : Text → Option (List ℕ)) (ans
   pub bad_words : file_of words ≡ None → answer ≡ BadWords
   pub too_long : (name : Text) (bytes : List ℕ) → file_of words ≡ Some name → given name ≡ Some bytes → limit < length bytes → IsOrMemory TooLong answer
   pub bad_spec : (name : Text) (bytes : List ℕ) → file_of words ≡ Some name → given name ≡ Some bytes → length bytes ≤ limit → IsNoSpec bytes → IsOrMemory BadSpec answer
-  pub unreachable : (name : Text) (bytes : List ℕ) (spec : Spec) → file_of words ≡ Some name → given name ≡ Some bytes → length bytes ≤ limit → BareText bytes spec → IsOrMemory Unreachable answer
+  pub unreachable : (name : Text) (bytes : List ℕ) (spec : Spec) → file_of words ≡ Some name → given name ≡ Some bytes → length bytes ≤ limit → SpecText bytes spec → Closed spec.initial spec.rules → IsOrMemory Unreachable answer
+  pub undecided : (name : Text) (bytes : List ℕ) (spec : Spec) → file_of words ≡ Some name → given name ≡ Some bytes → length bytes ≤ limit → SpecText bytes spec → (Closed spec.initial spec.rules → ⊥) → IsOrMemory Undecided answer

@@ -1,10 +1,10 @@
--- What the readers of the parts of a bare text answer. This project's own format.
+-- What the readers of the parts of a text answer. This project's own format.
 use Rattle.std.specs.Prelude.{◌≡◌, ◌≢◌, ℕ, ◌<◌, List, [], ◌∷◌, ◌++◌, None, Contains, length}
 use Rattle.ranked_terms.specs.Names.{Symbol, number_of}
 use Rattle.timbuk_cli.specs.Vocabulary.{IsName}
 use Rattle.timbuk_cli.specs.Glyphs.{Text, Glyph, word}
 use Rattle.timbuk_cli.specs.Source.{SymbolDeclaration, spelled_symbol, spelled_all}
-use Rattle.timbuk_cli.specs.BareText.{value_of, signature_of, IsArity, AreSymbols}
+use Rattle.timbuk_cli.specs.SpecText.{value_of, signature_of, IsArity, AreSymbols}
 
 -- the tokens begin with the declaration of this name and this arity
 pub record DeclaresSymbol (glyphs rest : List Glyph) (name : Text) (arity : ℕ) : Type 0 where

@@ -2,10 +2,12 @@
 use Rattle.std.specs.Prelude.{◌≡◌, ◌≢◌, ℕ, List, [], ◌∷◌, ◌++◌, All, Contains, map, length, codes}
 use Rattle.ranked_terms.specs.Names.{Symbol}
 use Rattle.ta_core.specs.TreeAutomaton.{TreeAutomaton}
+use Rattle.trs_rules.specs.Rules.{RewriteRule}
 use Rattle.timbuk_lex.specs.declared.lexeme.Lexeme.{Lexeme}
+use Rattle.timbuk_cli.specs.Vocabulary.{IsName}
 use Rattle.timbuk_cli.specs.Glyphs.{Text, Glyph, word, mark, glyphs_of, HasWord}
-use Rattle.timbuk_cli.specs.Source.{TransitionDeclaration, spelled_name, spelled_transition, spelled_all}
-use Rattle.timbuk_cli.specs.BareText.{IsAllowedTransition, Numbers}
+use Rattle.timbuk_cli.specs.Source.{TransitionDeclaration, RuleDeclaration, spelled_name, spelled_rule, spelled_transition, spelled_all}
+use Rattle.timbuk_cli.specs.SpecText.{IsAllowedTransition, IsAllowedRule, AreRules, Numbers, rule_of}
 
 -- ---- one declaration
 
@@ -71,6 +73,30 @@ pub record AreArguments (states : List Text) (count : ℕ) (args : List Text) : 
 -- any text
 abbrev pub AnyText : Text → Type 0
 AnyText text = Unit {0}
+
+-- ---- the rewriting system
+
+-- the tokens spell allowed rules, and these are their values
+pub record ReadsRules (signature : List Symbol) (variables : List Text) (lexemes : List Lexeme) (rules : List RewriteRule) : Type 0 where
+  pub declarations : List RuleDeclaration
+  pub allowed : AreRules signature (length variables) declarations
+  pub glyphs : glyphs_of lexemes ≡ spelled_all (spelled_rule signature variables) declarations
+  pub are : rules ≡ map rule_of declarations
+
+-- the tokens spell no allowed rules
+pub record LacksRules (signature : List Symbol) (variables : List Text) (lexemes : List Lexeme) : Type 0 where
+  pub none : (declarations : List RuleDeclaration) → AreRules signature (length variables) declarations → glyphs_of lexemes ≢ spelled_all (spelled_rule signature variables) declarations
+
+-- a name, which is the title, and the rest
+pub record ReadsTitle (lexemes rest : List Lexeme) : Type 0 where
+  pub title : Text
+  pub named : IsName title
+  pub glyphs : glyphs_of lexemes ≡ word title ∷ glyphs_of rest
+  pub tokens : All HasWord rest
+
+-- the tokens don't begin with a name
+pub record LacksTitle (lexemes : List Lexeme) : Type 0 where
+  pub none : (title : Text) (rest : List Glyph) → IsName title → glyphs_of lexemes ≢ word title ∷ rest
 
 -- ---- the automaton
 

@@ -1,4 +1,4 @@
--- How a bare text is cut at its section words. This project's own format.
+-- How a specification is cut at its section words. This project's own format.
 use Rattle.std.specs.Prelude.{◌≡◌, ℕ, Bool, false, not, ◌&&◌, List, [], ◌∷◌, ◌++◌, Option, Some, None, All, take, drop, codes, unwrap_or, if◌then◌else◌}
 use Rattle.std.specs.List.{prefix_len, list_any}
 use Rattle.std.specs.Str.{bytes_eq}

@@ -1,11 +1,11 @@
-//! The reader of bare texts: specifications with one rewriting system without rules and one automaton.
+//! The reader of specifications with one rewriting system and one automaton.
 //!
 //! The text is cut into tokens (`timbuk_lex`), these at the section words (`sections`), and each part is read by a module of
 //! its own. Each byte and each token is looked at a bounded number of times; names are found by their hashes, and the
 //! automaton's lists are sorted once.
 ghost use Rattle.std.specs.Prelude.{◌≡◌, ◌<◌, ◌-◌, ◌^◌, IfOk, IsErrOf, length};
 ghost use Rattle.timbuk_cli.specs.Source.{Source};
-ghost use Rattle.timbuk_cli.specs.BareText.{BareText, IsAllowed};
+ghost use Rattle.timbuk_cli.specs.SpecText.{SpecText, IsAllowed};
 ghost use Rattle.timbuk_cli.specs.Sections.{AreTokens};
 ghost use Rattle.timbuk_cli.specs.Parts.{PartsSpell, ReadsParts};
 ghost use Rattle.timbuk_cli.specs.declared.reader.SpecError.TheVariants.{Memory};
@@ -14,14 +14,17 @@ mod automaton;
 mod comment;
 mod front;
 mod names;
+mod pattern;
+mod rules;
 mod sections;
 mod symbols;
 mod transition;
 
 use automaton::read_automaton;
 use comment::has_comment;
-use names::{NameTable, read_names, read_title};
+use names::{NameTable, after_title, read_names, read_title};
 use ranked_terms::Seq;
+use rules::read_rules;
 use sections::{Sections, cut};
 use std::alloc::{AllocError, Global};
 use symbols::read_symbols;
@@ -37,7 +40,7 @@ const MAX_STATES: usize = 16384;
 /// Why no specification was read.
 #[derive(Clone, Copy, Debug, PartialEq, Eq)]
 pub enum SpecError {
-    /// The bytes are no bare text.
+    /// The bytes are no such specification.
     Unread,
     /// There is no memory.
     Memory,
@@ -57,12 +60,14 @@ fn read_sections(alloc: Global, sections: &Sections) -> Result<Spec, SpecError>
     ensures found { IfOk result (λ spec. ReadsParts sections.now spec) }
     ensures unread { IsErrOf result SpecError.Unread → (source : Source) → IsAllowed source → PartsSpell sections.now source → ⊥ }
 {
-    if !read_title(sections.system) || !read_title(sections.automaton) {
+    let rules = after_title(sections.system).ok_or(SpecError::Unread)?;
+    if !read_title(sections.automaton) {
         return Err(SpecError::Unread);
     }
     let signature = read_symbols(alloc, sections.ops)?;
     let none = NameTable::new(alloc);
     let vars = read_names(alloc, sections.vars, &signature, &none, MAX_VARIABLES)?;
+    let rules = read_rules(alloc, &signature, &vars, rules)?;
     let states = read_names(alloc, sections.states, &signature, &vars, MAX_STATES)?;
     let initial = read_automaton(
         alloc,
@@ -74,7 +79,7 @@ fn read_sections(alloc: Global, sections: &Sections) -> Result<Spec, SpecError>
     Ok(Spec {
         vars: vars.to_names(alloc)?,
         signature,
-        rules: Seq::new(alloc),
+        rules,
         equations: Seq::new(alloc),
         entries: Seq::new(alloc),
         extra: 0,
@@ -84,12 +89,12 @@ fn read_sections(alloc: Global, sections: &Sections) -> Result<Spec, SpecError>
     })
 }
 
-/// Reads a bare text: the specification that it spells. `Unread` exactly where the bytes are no bare text, and `Memory` at
+/// Reads a text: the specification that it spells. `Unread` exactly where it spells none, and `Memory` at
 /// want of memory. The bytes are fewer than 4,294,967,295, so that the places of tokens fit their types.
 pub fn read_spec(alloc: Global, bytes: &[u8]) -> Result<Spec, SpecError>
     requires { length bytes.now < 2 ^ 32 - 1 }
-    ensures found { IfOk result (λ spec. BareText bytes.now spec) }
-    ensures unread { IsErrOf result SpecError.Unread → (spec : _) → BareText bytes.now spec → ⊥ }
+    ensures found { IfOk result (λ spec. SpecText bytes.now spec) }
+    ensures unread { IsErrOf result SpecError.Unread → (spec : _) → SpecText bytes.now spec → ⊥ }
 {
     if has_comment(bytes) {
         return Err(SpecError::Unread);

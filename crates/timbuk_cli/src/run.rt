@@ -2,13 +2,16 @@
 ghost use Rattle.std.specs.Prelude.{◌≡◌, ◌≢◌, ℕ, List, ◌≤◌, ◌∷◌, ◌++◌, Some, IfOk, codes, length, map, string_bytes};
 ghost use Rattle.tim_io.specs.Causes.{Rose};
 ghost use Rattle.tim_io.specs.Shelves.{OthersStay};
+ghost use Rattle.ta_core.specs.TreeAutomaton.{IsSound};
 ghost use Rattle.timbuk_cli.specs.Words.{file_of};
-ghost use Rattle.timbuk_cli.specs.Output.{line, Judges, Says, Ran, Answers};
+ghost use Rattle.timbuk_cli.specs.Output.{line, Decides, Judges, Says, Ran, Answers};
 
+use crate::closure::is_closed;
 use crate::reader::{SpecError, read_spec};
 use crate::status::Status;
 use crate::words::file_word;
 use std::alloc::{AllocError, Global};
+use ta_core::Spec;
 use tim_io::{ReadError, Shelf, Sink, read_all, write_all};
 
 /// The largest number of bytes of a specification.
@@ -18,13 +21,26 @@ const MAX_SPEC: usize = 1048576;
 const USAGE: &str =
     "usage: timbuk complete FILE [OPTIONS] | check SPEC CERT | ta OP FILE [--limit N] | browse SPEC SCRIPT | sample N\n";
 
+/// The verdict on a specification: `Unreachable` exactly where its initial automaton is closed under its rules, and else
+/// `Undecided`. The only error is want of memory.
+fn verdict(alloc: Global, spec: &Spec) -> Result<Status, AllocError>
+    ensures exact { IfOk result (Decides spec.now) }
+    ensures sound { IsSound spec.now.initial }
+{
+    if is_closed(alloc, &spec.initial, spec.rules.as_slice())? {
+        Ok(Status::Unreachable)
+    } else {
+        Ok(Status::Undecided)
+    }
+}
+
 /// The verdict on the bytes of a file. The only error is want of memory.
 fn judge(alloc: Global, bytes: &[u8]) -> Result<Status, AllocError>
     requires { length bytes.now ≤ 1048576 }
     ensures { IfOk result (Judges bytes.now) }
 {
     match read_spec(alloc, bytes) {
-        Ok(_) => Ok(Status::Unreachable),
+        Ok(spec) => verdict(alloc, &spec),
         Err(SpecError::Unread) => Ok(Status::BadSpec),
         Err(SpecError::Memory) => Err(AllocError),
     }
@@ -33,10 +49,12 @@ fn judge(alloc: Global, bytes: &[u8]) -> Result<Status, AllocError>
 /// The line for the verdict on a file.
 fn verdict_line(verdict: Status) -> &'static str
     ensures unreachable { verdict ≡ Status.Unreachable → result.now ≡ line (codes "Verdict unreachable") }
+    ensures undecided { verdict ≡ Status.Undecided → result.now ≡ line (codes "Verdict undecided") }
     ensures bad_spec { verdict ≡ Status.BadSpec → result.now ≡ line (codes "Bad specification") }
 {
     match verdict {
         Status::Unreachable => "Verdict unreachable\n",
+        Status::Undecided => "Verdict undecided\n",
         _ => "Bad specification\n",
     }
 }
@@ -77,7 +95,8 @@ fn answer<F: Shelf>(
 /// Does what the words say, over the files of the shelf, and writes what there is to say to the sink.
 ///
 /// The words are exactly `complete FILE`. `Unreachable` comes exactly where the file is a specification (up to now one
-/// without rules and with one automaton), and then no term that is reachable in it is forbidden. `BadWords` comes exactly
+/// with one automaton) whose initial automaton is closed under its rules, and then no term that is reachable in it is
+/// forbidden. `Undecided` comes exactly where the automaton of a specification is not closed. `BadWords` comes exactly
 /// where the words are no command line, `TooLong` exactly where the file has more than 1,048,576 bytes, `BadSpec` exactly
 /// where its bytes are no specification, `ReadFault` only where the shelf failed at the file, `WriteFault` only where the
 /// sink failed, and `Memory` at want of memory once the words were understood. At each but the last two the whole text of

@@ -7,6 +7,8 @@ ghost use Rattle.timbuk_cli.specs.Codes.{code_of};
 pub enum Status {
     /// No reachable term is forbidden.
     Unreachable,
+    /// Nothing is settled: the initial automaton is not closed under the rules.
+    Undecided,
     /// The words are no command line.
     BadWords,
     /// The file is no specification.
@@ -28,6 +30,7 @@ impl Status {
     {
         match self {
             Status::Unreachable => 0,
+            Status::Undecided => 2,
             Status::BadWords => 64,
             Status::BadSpec => 65,
             Status::TooLong => 67,

@@ -8,6 +8,8 @@ use std::alloc::{AllocError, Global};
 use std::test::Fail;
 use tim_io::{HonestShelf, HonestSink, MemShelf, MemSink};
 
+mod verdicts;
+
 /// A text without rules, with one state that a constant runs to.
 const BARE: &[u8] =
     b"Ops a:0\nTRS R\nAutomaton One\nStates q0\nFinal States q0\nTransitions\na -> q0\n";
@@ -50,7 +52,7 @@ fn padded(alloc: Global, case: &Case) -> Result<Vec<u8>, AllocError> {
 fn runs_over_objects_in_memory(rt: HostRuntime) -> Result<(), Fail> {
     let cases = [
         Case {
-            shows: "a bare text",
+            shows: "a text without rules",
             words: &["complete", "F"],
             file: BARE,
             length: 0,
@@ -61,7 +63,7 @@ fn runs_over_objects_in_memory(rt: HostRuntime) -> Result<(), Fail> {
             written: b"Verdict unreachable\n",
         },
         Case {
-            shows: "a bare text, written in small pieces",
+            shows: "the verdict in small pieces",
             words: &["complete", "F"],
             file: BARE,
             length: 0,

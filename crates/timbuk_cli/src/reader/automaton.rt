@@ -5,7 +5,7 @@ ghost use Rattle.ta_core.specs.TreeAutomaton.{bare};
 ghost use Rattle.ta_core.specs.SpecRules.{automaton_is_over};
 ghost use Rattle.timbuk_cli.specs.Glyphs.{HasWord};
 ghost use Rattle.timbuk_cli.specs.Source.{spelled_name, spelled_transition};
-ghost use Rattle.timbuk_cli.specs.BareText.{place_in, transition_of, IsAllowedTransition};
+ghost use Rattle.timbuk_cli.specs.SpecText.{place_in, transition_of, IsAllowedTransition};
 ghost use Rattle.timbuk_cli.specs.Reads.{ReadsAll, LacksAll, ReadsAutomaton, LacksAutomaton};
 
 use crate::reader::SpecError;

@@ -1,6 +1,6 @@
 //! Looks for comments in the bytes of a text.
 ghost use Rattle.std.specs.Prelude.{◌≡◌};
-ghost use Rattle.timbuk_cli.specs.BareText as texts;
+ghost use Rattle.timbuk_cli.specs.SpecText as texts;
 
 /// Whether the bytes `(*` stand somewhere.
 pub(crate) fn has_comment(bytes: &[u8]) -> bool

@@ -3,7 +3,7 @@ ghost use Rattle.std.specs.Prelude.{◌≡◌, ◌≢◌, ◌≤◌, ◌++◌, �
 ghost use Rattle.ranked_terms.specs.Names.{names_of};
 ghost use Rattle.timbuk_cli.specs.Glyphs.{Glyph, mark, glyph_of, glyphs_of, HasWord};
 ghost use Rattle.timbuk_cli.specs.Source.{spelled_name};
-ghost use Rattle.timbuk_cli.specs.BareText.{place_in};
+ghost use Rattle.timbuk_cli.specs.SpecText.{place_in};
 ghost use Rattle.timbuk_cli.specs.Reads.{Reads, Lacks, FollowsMark, LacksMark, AnyText};
 
 use crate::reader::names::{NameTable, word_of};

@@ -10,7 +10,7 @@ mod read;
 use crate::reader::sections::is_reserved_word;
 use indexmap::IndexSet;
 use ranked_terms::{MAX_NAME, Name, Seq};
-pub(crate) use read::{read_names, read_title};
+pub(crate) use read::{after_title, read_names, read_title};
 use std::alloc::{AllocError, Global};
 use std::marker::Model;
 use timbuk_lex::{Lexeme, TokenKind};

@@ -1,4 +1,4 @@
-//! Cuts a bare text at its section words.
+//! Cuts a specification at its section words.
 //!
 //! Each section begins with its word, goes on to the next section word or closed word, and stands in one order:
 //! `Ops` and `Vars`, which may be left out, `TRS`, `Automaton`, `States`, `Final States` and `Transitions`.
@@ -96,14 +96,14 @@ fn optional_section<'s, 'a>(
     }
 }
 
-/// The tokens below each section word of a bare text.
+/// The tokens below each section word of a specification.
 #[derive(Clone, Copy, Debug, Drop)]
 pub(crate) struct Sections<'s, 'a> {
     /// The declarations of symbols, none where `Ops` is left out.
     pub(crate) ops: &'s [Lexeme<'a>],
     /// The variables, none where `Vars` is left out.
     pub(crate) vars: &'s [Lexeme<'a>],
-    /// The name of the system.
+    /// The name of the system, and its rules.
     pub(crate) system: &'s [Lexeme<'a>],
     /// The name of the automaton.
     pub(crate) automaton: &'s [Lexeme<'a>],

@@ -3,7 +3,7 @@ ghost use Rattle.std.specs.Prelude.{◌≡◌, ◌≢◌, ℕ, ◌↔◌, List, 
 ghost use Rattle.timbuk_cli.specs.Vocabulary.{IsName};
 ghost use Rattle.timbuk_cli.specs.Glyphs.{Glyph, mark, glyph_of, glyphs_of, HasWord};
 ghost use Rattle.timbuk_cli.specs.Source.{SymbolDeclaration, spelled_symbol, spelled_all};
-ghost use Rattle.timbuk_cli.specs.BareText.{value_of, IsArity, AreSymbols};
+ghost use Rattle.timbuk_cli.specs.SpecText.{value_of, IsArity, AreSymbols};
 ghost use Rattle.timbuk_cli.specs.Reading.{DeclaresSymbol, IsNewSymbol, AddsSymbol, ReadsSymbols};
 
 use crate::reader::SpecError;

@@ -2,7 +2,7 @@
 ghost use Rattle.std.specs.Prelude.{◌≡◌, ◌≤◌, ◌∷◌, ℕ, List, All, Contains, length, map, MatchOption, IfOk, IsErrOf};
 ghost use Rattle.timbuk_cli.specs.Glyphs.{HasWord};
 ghost use Rattle.timbuk_cli.specs.Source.{spelled_args, spelled_transition, spelled_all};
-ghost use Rattle.timbuk_cli.specs.BareText.{place_in, transition_of, IsAllowedTransition};
+ghost use Rattle.timbuk_cli.specs.SpecText.{place_in, transition_of, IsAllowedTransition};
 ghost use Rattle.timbuk_cli.specs.Reads.{Reads, Lacks, AreArguments, spelled_after, spelled_next};
 
 use crate::reader::SpecError;

@@ -1,7 +1,7 @@
 use Rattle.std.proofs.Common.{rules}
 use Rattle.std.proofs.lemmas.Result.{err_from_is_err_and}
 use Rattle.timbuk_cli.proofs.Errors.{same_error}
-use Rattle.timbuk_cli.proofs.Composition.{no_variables, no_states, no_automaton, parts_read}
+use Rattle.timbuk_cli.proofs.Composition.{no_variables, no_rules, no_states, no_automaton, parts_read}
 use Rattle.timbuk_cli.proofs.reader.read_sections.Goals as goal
 
 pub returns-in_err-vars-clause-unread : goal.returns-in_err-vars-clause-unread
@@ -10,6 +10,14 @@ returns-in_err-vars-clause-unread c =
     rw (e.1, e.2)
     (λ unread source allowed spell. no_variables c.args.sections.now source allowed spell c.in_ok-signature.signature c.in_ok-signature.ensures.ok c.new-none.result c.new-none.ensures
     (c.in_err-vars.ensures.unread (same_error _ _ unread)))
+
+pub returns-in_err-rules-2-clause-unread : goal.returns-in_err-rules-2-clause-unread
+returns-in_err-rules-2-clause-unread c =
+    let e = err_from_is_err_and c.from_residual-in_err-rules-2.result c.from_residual-in_err-rules-2.ensures.1 in
+    rw (e.1, e.2)
+    (λ unread source allowed spell. no_rules c.args.sections.now source allowed spell c.in_ok-signature.signature c.in_ok-signature.ensures.ok c.in_ok-vars.vars c.in_ok-vars.ensures.ok.0 c.in_ok-rules.rules.now
+    (search rules)
+    (c.in_err-rules-2.ensures.unread (same_error _ _ unread)))
 
 pub returns-in_err-states-clause-unread : goal.returns-in_err-states-clause-unread
 returns-in_err-states-clause-unread c =
@@ -27,5 +35,5 @@ returns-in_err-initial-clause-unread c =
 
 pub returns-clause-found : goal.returns-clause-found
 returns-clause-found c =
-    parts_read c.args.sections.now _ c.in_ok-vars.vars c.in_ok-states.states c.new-none.result (c.read_title.ensures.0 (search rules)) (c.read_title-else-not-read_title.ensures.0 (search rules)) c.in_ok-signature.ensures.ok c.new-none.ensures c.in_ok-vars.ensures.ok c.in_ok-states.ensures.ok c.in_ok-initial.ensures.ok
-    c.in_ok-to_names.ensures c.new.ensures c.new-2.ensures c.new-3.ensures (search rules) (search rules) c.new-4.ensures
+    parts_read c.args.sections.now _ c.in_ok-rules.rules.now c.in_ok-vars.vars c.in_ok-states.states c.new-none.result (search rules) (c.read_title.ensures.0 (search rules)) c.in_ok-signature.ensures.ok c.new-none.ensures c.in_ok-vars.ensures.ok c.in_ok-rules-2.ensures.ok c.in_ok-states.ensures.ok c.in_ok-initial.ensures.ok
+    c.in_ok-to_names.ensures c.new.ensures c.new-2.ensures (search rules) (search rules) c.new-3.ensures

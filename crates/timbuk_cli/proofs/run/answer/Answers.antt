@@ -9,4 +9,5 @@ returns-clause-says g c =
     let written : string_bytes c.in_ok-from_str.field-0 ≡ c.verdict_line.result.now = search rules in
     said c.args.name.now _ _ _ c.in-Ok.bytes c.in_ok-verdict.verdict c.in-Ok.ensures.told judged
     (λ is. rw written (c.verdict_line.ensures.unreachable is))
+    (λ is. rw written (c.verdict_line.ensures.undecided is))
     (λ is. rw written (c.verdict_line.ensures.bad_spec is))

@@ -1,11 +1,12 @@
-use Rattle.timbuk_cli.proofs.Verdicts.{bare_is_safe}
+use Rattle.timbuk_cli.proofs.Composition.{on_ok}
+use Rattle.timbuk_cli.proofs.Verdicts.{judged_by}
+use Rattle.timbuk_cli.specs.Output.{Decides, Judges}
 use Rattle.timbuk_cli.proofs.run.judge.Goals as goal
-use Rattle.timbuk_cli.proofs.run.judge.Goals.{in-Ok, in-Err-Unread, in-Err-Memory}
 
-pub returns : goal.returns
-returns c =
-    elim c.match-read_spec.branch [
-      | in-Ok w ↦ rw w.result-is (bare_is_safe c.args.bytes.now _ w.in-Ok.ensures.found)
-      | in-Err-Unread w ↦ rw w.result-is (c.read_spec.ensures.unread (cc))
-      | in-Err-Memory w ↦ rw w.result-is tt
-    ]
+pub returns-in-Ok : goal.returns-in-Ok
+returns-in-Ok c =
+    let spec = c.in-Ok.spec in
+    on_ok (Decides spec) (Judges c.args.bytes.now) (judged_by c.args.bytes.now spec c.in-Ok.ensures.found c.verdict.ensures.sound) c.verdict.result c.verdict.ensures.exact
+
+pub returns-in-Err-Unread : goal.returns-in-Err-Unread
+returns-in-Err-Unread c = c.read_spec.ensures.unread (cc)

@@ -1,11 +1,12 @@
 //! Reads lists of names.
-ghost use Rattle.std.specs.Prelude.{◌≡◌, ◌≢◌, ◌↔◌, List, ◌++◌, All, IsTrue, Contains, IfOk, OnOk, IsErrOf};
+ghost use Rattle.std.specs.Prelude.{◌≡◌, ◌≢◌, ◌↔◌, List, ◌++◌, All, IsTrue, MatchOption, Contains, IfOk, OnOk, IsErrOf};
 ghost use Rattle.std.specs.List.{IsDistinct};
 ghost use Rattle.std.specs.Str.{bytes_eq};
 ghost use Rattle.ranked_terms.specs.Names.{names_of};
 ghost use Rattle.timbuk_cli.specs.Glyphs.{Text, word, glyph_of, glyphs_of, HasWord};
 ghost use Rattle.timbuk_cli.specs.Source.{spelled_name, spelled_all};
-ghost use Rattle.timbuk_cli.specs.BareText.{AreNewNames};
+ghost use Rattle.timbuk_cli.specs.SpecText.{AreNewNames};
+ghost use Rattle.timbuk_cli.specs.Reads.{ReadsTitle, LacksTitle};
 ghost use Rattle.timbuk_cli.specs.Reading.{IsNewName, AddsName, IsOneName};
 
 use super::{NameTable, name_of};
@@ -66,6 +67,16 @@ pub(crate) fn read_names(
         add_name(&mut table, lexeme, signature, taken, limit)?;
     }
     Ok(table)
+}
+
+/// What follows the name in front. `None` exactly where the tokens don't begin with a name.
+pub(crate) fn after_title<'s, 'a>(lexemes: &'s [Lexeme<'a>]) -> Option<&'s [Lexeme<'a>]>
+    requires { All HasWord lexemes.now }
+    ensures { MatchOption result (LacksTitle lexemes.now) (λ rest. ReadsTitle lexemes.now rest.now) }
+{
+    let (first, rest) = lexemes.split_first()?;
+    let _ = name_of(first)?;
+    Some(rest)
 }
 
 /// Whether there is one token, and it is a name.

@@ -1,7 +1,7 @@
 use Rattle.std.proofs.Common.{Contains}
 use Rattle.std.proofs.lemmas.List.{take_rest}
 use Rattle.timbuk_cli.specs.Source.{spelled_name}
-use Rattle.timbuk_cli.specs.BareText.{place_in}
+use Rattle.timbuk_cli.specs.SpecText.{place_in}
 use Rattle.timbuk_cli.proofs.Automata.{Decodes-name}
 use Rattle.timbuk_cli.proofs.Decoding.{moves, lacks_all_at}
 use Rattle.timbuk_cli.proofs.reader.automaton.read_finals.Goals as goal

@@ -1,6 +1,6 @@
 use Rattle.std.proofs.Common.{◌≤◌, ◌-◌, length, drop, Contains}
 use Rattle.timbuk_cli.specs.Source.{spelled_name}
-use Rattle.timbuk_cli.specs.BareText.{place_in}
+use Rattle.timbuk_cli.specs.SpecText.{place_in}
 use Rattle.timbuk_cli.specs.Reads.{ReadsSome}
 use Rattle.timbuk_cli.proofs.reader.automaton.read_finals.Given as goal
 

@@ -1,7 +1,7 @@
 use Rattle.std.proofs.lemmas.List.{take_rest}
 use Rattle.std.proofs.lemmas.Result.{err_from_is_err_and}
 use Rattle.timbuk_cli.specs.Source.{spelled_transition}
-use Rattle.timbuk_cli.specs.BareText.{transition_of, IsAllowedTransition}
+use Rattle.timbuk_cli.specs.SpecText.{transition_of, IsAllowedTransition}
 use Rattle.timbuk_cli.proofs.Transitions.{Decodes-transition}
 use Rattle.timbuk_cli.proofs.Decoding.{moves, lacks_all_at}
 use Rattle.timbuk_cli.proofs.reader.automaton.read_transitions.Goals as goal

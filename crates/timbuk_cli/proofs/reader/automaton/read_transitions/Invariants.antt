@@ -1,6 +1,6 @@
 use Rattle.std.proofs.Common.{◌≤◌, ◌-◌, length, drop}
 use Rattle.timbuk_cli.specs.Source.{spelled_transition}
-use Rattle.timbuk_cli.specs.BareText.{transition_of, IsAllowedTransition}
+use Rattle.timbuk_cli.specs.SpecText.{transition_of, IsAllowedTransition}
 use Rattle.timbuk_cli.specs.Reads.{ReadsSome}
 use Rattle.timbuk_cli.proofs.reader.automaton.read_transitions.Given as goal
 

@@ -1,5 +1,5 @@
 use Rattle.std.proofs.Common.{◌≡◌, ◌≢◌, ◌⊎◌, inl, inr, ℕ, suc, ◌+◌, ◌-◌, ◌<◌, List, length, drop, get_or, sym, ◌∙◌, arith}
-use Rattle.timbuk_cli.specs.BareText.{has_comment}
+use Rattle.timbuk_cli.specs.SpecText.{has_comment}
 use Rattle.timbuk_cli.proofs.Comments.{comment_on, comment_short}
 use Rattle.timbuk_cli.proofs.reader.comment.has_comment.Goals as goal
 use Rattle.timbuk_cli.proofs.reader.comment.has_comment.Goals.{else-bytes-i-eq40-via-then-bytes-i-eq40+else-bytes-i-eq42, else-bytes-i-eq40-via-else-bytes-i-eq40}

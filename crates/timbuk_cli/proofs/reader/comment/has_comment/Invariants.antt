@@ -1,5 +1,5 @@
 use Rattle.std.proofs.Common.{◌≡◌, ◌-◌, drop}
-use Rattle.timbuk_cli.specs.BareText.{has_comment}
+use Rattle.timbuk_cli.specs.SpecText.{has_comment}
 use Rattle.timbuk_cli.proofs.reader.comment.has_comment.Given as goal
 
 abbrev pub invariant-loop-i : goal.invariant-loop-i

@@ -1,5 +1,5 @@
 use Rattle.std.proofs.Common.{◌+◌, subst, arith}
-use Rattle.timbuk_cli.specs.BareText.{IsArity}
+use Rattle.timbuk_cli.specs.SpecText.{IsArity}
 use Rattle.timbuk_cli.proofs.Arities.{value_of-more, no_arity-large}
 use Rattle.timbuk_cli.proofs.reader.symbols.arity_of_digits.Goals as goal
 

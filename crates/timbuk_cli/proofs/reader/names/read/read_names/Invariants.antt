@@ -2,7 +2,7 @@ use Rattle.std.proofs.Common.{◌≡◌, ◌++◌, drop}
 use Rattle.ranked_terms.specs.Names.{names_of}
 use Rattle.timbuk_cli.specs.Glyphs.{glyphs_of}
 use Rattle.timbuk_cli.specs.Source.{spelled_name, spelled_all}
-use Rattle.timbuk_cli.specs.BareText.{AreNewNames}
+use Rattle.timbuk_cli.specs.SpecText.{AreNewNames}
 use Rattle.timbuk_cli.proofs.reader.names.read.read_names.Given as goal
 
 abbrev pub invariant-loop-lexeme : goal.invariant-loop-lexeme

@@ -1,5 +1,5 @@
--- Which declarations are allowed, what they number, and which bytes are a bare text. This project's own format.
-use Rattle.std.specs.Prelude.{◌≡◌, ℕ, ◌+◌, ◌-◌, ◌*◌, ◌≤◌, ◌↔◌, ◌==◌, ◌&&◌, ◌||◌, Bool, false, List, [], ◌∷◌, ◌++◌, Some, IsTrue, All, Contains, map, fold, length, slice_index}
+-- Which declarations are allowed, what they number, and which bytes are a specification with one automaton. This project's own format.
+use Rattle.std.specs.Prelude.{◌≡◌, ℕ, ◌≤◌, ◌<◌, ◌↔◌, ◌==◌, ◌&&◌, ◌||◌, Bool, false, List, [], ◌∷◌, ◌++◌, Some, IsTrue, All, Contains, map, length, slice_index}
 use Rattle.std.specs.List.{list_all, IsDistinct, position_or_len, range_with_len}
 use Rattle.std.specs.List.Sorted.{IsStrictlySortedBy}
 use Rattle.std.specs.Ordering.{nat_cmp}
@@ -8,6 +8,9 @@ use Rattle.std.specs.Option.{option_and_then}
 use Rattle.std.specs.Str.{bytes_eq}
 use Rattle.std.specs.Char.{is_ascii_digit}
 use Rattle.ranked_terms.specs.Names.{Symbol, names_of, number_of, arity_of}
+use Rattle.ranked_terms.specs.Terms.{pattern_is_over, occurrences, variables_of, nesting_of}
+use Rattle.ranked_terms.specs.declared.term.Pattern.{Pattern}
+use Rattle.trs_rules.specs.Rules.{RewriteRule, IsRule}
 use Rattle.ta_core.specs.TreeAutomaton.{TreeAutomaton, bare, trans_of, trans_cmp}
 use Rattle.ta_core.specs.declared.trans.Trans.{Trans}
 use Rattle.ta_core.specs.declared.spec.Spec.{Spec}
@@ -15,19 +18,8 @@ use Rattle.timbuk_lex.specs.Lexing.{lexed}
 use Rattle.timbuk_lex.specs.declared.lex.Ending.TheVariants.{Whole}
 use Rattle.timbuk_cli.specs.Vocabulary.{IsName}
 use Rattle.timbuk_cli.specs.Glyphs.{Text, glyphs_of}
-use Rattle.timbuk_cli.specs.Source.{SymbolDeclaration, TransitionDeclaration, Source, symbols_in, variables_in, spelled}
-
--- ---- what is declared
-
--- the number that digits spell
-abbrev pub value_of : Text → ℕ
-value_of digits = fold (λ n d. n * 10 + (d - 48)) 0 digits
-
-abbrev pub signature_of : List SymbolDeclaration → List Symbol
-signature_of declarations = map (λ d. (d.name, value_of d.arity)) declarations
-
-abbrev pub symbol_names : Source → List Text
-symbol_names source = names_of (signature_of (symbols_in source))
+use Rattle.timbuk_cli.specs.Source.{SymbolDeclaration, RuleDeclaration, TransitionDeclaration, Source, symbols_in, variables_in, signature_in, spelled}
+pub use Rattle.timbuk_cli.specs.Source.{value_of, signature_of, symbol_names}
 
 -- ---- what is allowed
 
@@ -36,6 +28,22 @@ pub record IsArity (text : Text) : Type 0 where
   pub digits : IsTrue (list_all is_ascii_digit text)
   pub short : length text ≤ 255
   pub small : value_of text ≤ 16
+
+-- symbols of the signature with as many arguments as their arities say, the first so many variables, and symbols with arguments nested at most so deep
+pub record IsAllowedPattern (signature : List Symbol) (count depth : ℕ) (p : Pattern) : Type 0 where
+  pub symbols : IsTrue (pattern_is_over signature p)
+  pub variables : All (λ v. v < count) (occurrences p)
+  pub nesting : nesting_of p ≤ depth
+
+-- the rule that the sides make
+abbrev pub rule_of : RuleDeclaration → RewriteRule
+rule_of d = record { left = d.left; right = d.right; vars = variables_of d.left }
+
+-- allowed sides of a left-linear rule of at most 16 variables
+pub record IsAllowedRule (signature : List Symbol) (count : ℕ) (d : RuleDeclaration) : Type 0 where
+  pub left : IsAllowedPattern signature count 100 d.left
+  pub right : IsAllowedPattern signature count 100 d.right
+  pub is_rule : IsRule (rule_of d)
 
 -- the head is a symbol with as many arguments as its arity says; the arguments and the target are states
 pub record IsAllowedTransition (signature : List Symbol) (states : List Text) (t : TransitionDeclaration) : Type 0 where
@@ -50,6 +58,11 @@ pub record AreSymbols (declarations : List SymbolDeclaration) : Type 0 where
   pub distinct : IsDistinct bytes_eq (names_of (signature_of declarations))
   pub few : length declarations ≤ 4096
 
+-- at most 4,096 allowed rules
+pub record AreRules (signature : List Symbol) (count : ℕ) (declarations : List RuleDeclaration) : Type 0 where
+  pub allowed : All (IsAllowedRule signature count) declarations
+  pub few : length declarations ≤ 4096
+
 -- at most so many names, each once, that may be declared beside those that are taken
 pub record AreNewNames (taken : List Text) (limit : ℕ) (new : List Text) : Type 0 where
   pub names : All IsName new
@@ -61,9 +74,10 @@ pub record IsAllowed (source : Source) : Type 0 where
   pub titles : IsName source.system × IsName source.automaton
   pub symbols : AreSymbols (symbols_in source)
   pub variables : AreNewNames (symbol_names source) 1024 (variables_in source)
+  pub rules : AreRules (signature_in source) (length (variables_in source)) source.rules
   pub states : AreNewNames (symbol_names source ++ variables_in source) 16384 source.states
   pub finals : All (Contains source.states) source.finals
-  pub transitions : All (IsAllowedTransition (signature_of (symbols_in source)) source.states) source.transitions
+  pub transitions : All (IsAllowedTransition (signature_in source) source.states) source.transitions
 
 -- ---- what it numbers
 
@@ -87,16 +101,16 @@ pub record Numbers (signature : List Symbol) (states finals : List Text) (transi
   pub trans_are : IsAscendingSet trans_cmp automaton.trans (map (transition_of signature states) transitions)
   pub no_eps : automaton.eps ≡ []
 
--- the spec that the declarations spell: no rule, equation or approximation, and nothing forbidden
+-- the spec that the declarations spell: no equation or approximation, and nothing forbidden
 pub record Declares (source : Source) (spec : Spec) : Type 0 where
-  pub signature : spec.signature ≡ signature_of (symbols_in source)
+  pub signature : spec.signature ≡ signature_in source
   pub vars : spec.vars ≡ variables_in source
-  pub rules : spec.rules ≡ []
+  pub rules : spec.rules ≡ map rule_of source.rules
   pub equations : spec.equations ≡ []
   pub entries : spec.entries ≡ []
   pub extra : spec.extra ≡ 0
   pub approximated : spec.approximated ≡ false
-  pub initial : Numbers (signature_of (symbols_in source)) source.states source.finals source.transitions spec.initial
+  pub initial : Numbers (signature_in source) source.states source.finals source.transitions spec.initial
   pub forbidden : spec.forbidden ≡ bare 0 []
 
 -- ---- the text
@@ -106,8 +120,8 @@ abbrev pub has_comment : List ℕ → Bool
 has_comment [] = false
 has_comment (b ∷ rest) = (b == 40 && slice_index rest 0 == 42) || has_comment rest
 
--- The bytes are a bare text that spells this spec. Quoted texts have no place in a bare text, so where it has no `(*` it has no comment.
-pub record BareText (bytes : List ℕ) (spec : Spec) : Type 0 where
+-- The bytes are a specification with one automaton that spells this spec. Quoted texts have no place in it, so where it has no `(*` it has no comment.
+pub record SpecText (bytes : List ℕ) (spec : Spec) : Type 0 where
   pub source : Source
   pub plain : has_comment bytes ≡ false
   pub whole : (lexed bytes).ending ≡ Whole

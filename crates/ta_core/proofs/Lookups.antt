@@ -1,0 +1,73 @@
+-- The part of a list that has a key, where the list ascends by its keys.
+use Rattle.std.proofs.Common.{◌≡◌, ◌↔◌, ℕ, ◌+◌, ◌-◌, ◌<◌, ◌≤◌, Bool, true, false, Result, ltb, leb, ltb-true, ltb-false, leb-true, leb-false, List, length, get_or, take, drop, refl, sym, ap, ◌∙◌, subst, ⊎_elim, true≢false, arith}
+use Rattle.std.specs.declared.cmp.Ordering.{Ordering}
+use Rattle.std.specs.declared.cmp.Ordering.TheVariants.{Less, Equal, Greater}
+use Rattle.std.specs.Ordering.{nat_cmp, ordering_then}
+use Rattle.std.specs.List.{Contains}
+use Rattle.std.specs.List.Sorted.{IsStrictlySortedBy, IsNonDecreasingBy, IsPartitionPoint, IsSearchInRange, IsBinarySearchResult}
+use Rattle.std.specs.Result.{is_ok}
+use Rattle.std.proofs.Math.Nat.{eq-or-lt_of_le}
+use Rattle.std.proofs.lemmas.Bool.{cases_lt}
+use Rattle.std.proofs.lemmas.Bool.Decides.{nat_tests}
+use Rattle.std.proofs.lemmas.List.{get_or-take, get_or-drop, length-take-le, length-drop, get_or_default}
+use Rattle.std.proofs.lemmas.List.Elements.{Contains-get_or}
+use Rattle.std.proofs.lemmas.List.Sorted.{IsNonDecreasingBy-from_default}
+use Rattle.std.proofs.lemmas.Cmp.{nat_cmp_total}
+use Rattle.std.proofs.lemmas.Map.Keys.{Less-from_sorted}
+use Rattle.std.proofs.lemmas.Map.Lookups.{exact_unsigned}
+use Rattle.ta_core.specs.TreeAutomaton.{trans_cmp, pair_cmp}
+use Rattle.ta_core.proofs.Members.{contains_from_has, has_from_contains}
+use Rattle.ta_core.proofs.Places.{search_answers}
+use Rattle.ta_core.specs.declared.trans.Trans.{Trans}
+
+-- a search among states finds those that are there
+pub search_finds : (states : List ℕ) (q : ℕ) (r : Result ℕ ℕ) → IsStrictlySortedBy nat_cmp states → IsSearchInRange r (length states) → IsBinarySearchResult (λ y. nat_cmp y q) states r → (is_ok r ≡ true) ↔ Contains states q
+search_finds states q r sorted bound position =
+    let answer = search_answers nat_cmp_total states q r sorted bound position in (
+      λ t. contains_from_has nat_cmp_total exact_unsigned states q (sym answer ∙ t),
+      λ i. answer ∙ has_from_contains nat_cmp_total exact_unsigned states q i,
+    )
+
+-- what comes first decides
+first_decides : (a b : ℕ) (rest : Ordering) → ordering_then (nat_cmp a b) rest ≡ Less → a ≤ b
+first_decides a b rest e = grind (arith, nat_tests)
+
+pub trans_ascend : (xs : List Trans) → IsStrictlySortedBy trans_cmp xs → IsNonDecreasingBy (λ (t : Trans). t.sym) xs
+trans_ascend xs s i j d low high =
+    ⊎_elim (λ same. subst (λ k. (get_or xs i d).sym ≤ (get_or xs k d).sym) same (omega arith)) (λ below. first_decides _ _ _ (Less-from_sorted trans_cmp xs i j d s below high)) (eq-or-lt_of_le low)
+
+pub eps_ascend : (xs : List (ℕ × ℕ)) → IsStrictlySortedBy pair_cmp xs → IsNonDecreasingBy (λ (e : ℕ × ℕ). e.0) xs
+eps_ascend xs s i j d low high =
+    ⊎_elim (λ same. subst (λ k. (get_or xs i d).0 ≤ (get_or xs k d).0) same (omega arith)) (λ below. first_decides _ _ _ (Less-from_sorted pair_cmp xs i j d s below high)) (eq-or-lt_of_le low)
+
+-- first what is below the key, then what is at it, then what is above
+module _ {X : Type 0} (n : X → ℕ) (key : ℕ) (xs : List X) (start count : ℕ) (in_start : start ≤ length xs) (in_count : count ≤ length (drop start xs))
+    (lower : IsPartitionPoint (λ y. ltb (n y) key ≡ true) (λ y. ltb (n y) key ≡ false) xs start)
+    (upper : IsPartitionPoint (λ y. leb (n y) key ≡ true) (λ y. leb (n y) key ≡ false) (drop start xs) count) where
+  at_part : (k : ℕ) (d : X) → k < count → get_or (take count (drop start xs)) k d ≡ get_or xs (start + k) d
+  at_part k d l = get_or-take count (drop start xs) k d l ∙ get_or-drop start xs k d
+
+  in_part : (x : X) → Contains (take count (drop start xs)) x → Contains xs x × (n x ≡ key)
+  in_part x c =
+      let size : length (take count (drop start xs)) ≡ count = length-take-le count (drop start xs) in_count in
+      let whole : length (drop start xs) ≡ length xs - start = length-drop start xs in
+      let k = c.0 in
+      let inside : k < count = omega (arith, c.1, size) in
+      let is : get_or xs (start + k) x ≡ x = sym (at_part k x inside) ∙ c.2 in
+      let not_below : key ≤ n x = ltb-false (n x) key (subst (λ y. ltb (n y) key ≡ false) is (lower.1 (start + k) x (omega arith) (omega (arith, whole)))) in
+      let not_above : n x ≤ key = leb-true (n x) key (subst (λ y. leb (n y) key ≡ true) (get_or-drop start xs k x ∙ is) (upper.0 k x (omega arith) inside)) in
+      ((start + k, omega (arith, whole), is), omega arith)
+
+  from_part : (x : X) → Contains xs x → n x ≡ key → Contains (take count (drop start xs)) x
+  from_part x c e =
+      let size : length (take count (drop start xs)) ≡ count = length-take-le count (drop start xs) in_count in
+      let whole : length (drop start xs) ≡ length xs - start = length-drop start xs in
+      let k = c.0 in
+      let not_before : start ≤ k = ⊎_elim (λ before. absurd (omega (arith, ltb-true (n x) key (subst (λ y. ltb (n y) key ≡ true) c.2 (lower.0 k x (omega arith) before)), e))) (λ h. h) (cases_lt k start) in
+      let i = k - start in
+      let is : get_or (drop start xs) i x ≡ x = get_or-drop start xs i x ∙ (ap (λ m. get_or xs m x) (omega arith) ∙ c.2) in
+      let not_after : i < count = ⊎_elim (λ h. h) (λ after. absurd (omega (arith, leb-false (n x) key (subst (λ y. leb (n y) key ≡ false) is (upper.1 i x after (omega (arith, whole, c.1)))), e))) (cases_lt i count) in
+      (i, omega (arith, size), get_or-take count (drop start xs) i x not_after ∙ is)
+
+  pub part_of_key : (x : X) → Contains (take count (drop start xs)) x ↔ (Contains xs x × (n x ≡ key))
+  part_of_key x = (in_part x, λ h. from_part x h.0 h.1)

@@ -1,0 +1,6 @@
+use Rattle.std.proofs.Common.{take}
+use Rattle.ta_core.proofs.RunStates.{AreExact}
+use Rattle.ta_core.proofs.automaton.Automaton.+reached_by.Given as goal
+
+abbrev pub invariant-loop-arg : goal.invariant-loop-arg
+invariant-loop-arg l = AreExact l.self (take l.arg-index l.arg-items) l.sets.items

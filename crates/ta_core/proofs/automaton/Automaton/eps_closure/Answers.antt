@@ -1,0 +1,8 @@
+use Rattle.std.specs.List.{Contains}
+use Rattle.ranked_terms.specs.declared.term.Config.{State}
+use Rattle.ta_core.specs.Runs.{Runs}
+use Rattle.ta_core.proofs.RunStates.{exact_by}
+use Rattle.ta_core.proofs.automaton.Automaton.eps_closure.Goals as goal
+
+pub returns : goal.returns
+returns c = exact_by (Contains c.in_ok-reached.reached) (Runs c.args.self.now (State c.args.state)) c.in_ok-reached.ensures c.to_set.result c.to_set.ensures

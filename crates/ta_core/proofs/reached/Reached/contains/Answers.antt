@@ -1,0 +1,6 @@
+use Rattle.std.proofs.Common.{sym, ap}
+use Rattle.ta_core.proofs.ReachedSets.{is_member}
+use Rattle.ta_core.proofs.reached.Reached.contains.Goals as goal
+
+pub returns : goal.returns
+returns c = rw (← c.self.view_is) (is_member c.self.inside.states.keys c.args.state c.contains.result c.contains.ensures)
