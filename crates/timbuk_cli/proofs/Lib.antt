@@ -22,3 +22,6 @@ pub mod Spelling
 pub mod Transitions
 pub mod Verdicts
 pub mod Closing
+pub mod PatternArguments
+pub mod ReadPatterns
+pub mod ReadRules

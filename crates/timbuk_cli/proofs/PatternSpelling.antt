@@ -18,8 +18,9 @@ use Rattle.ranked_terms.specs.declared.term.Pattern.TheVariants.{Var, App, rolls
 use Rattle.ranked_terms.specs.declared.term.Pattern.TheFolds.{fold-Pattern, fold-roll-Pattern}
 use Rattle.ranked_terms.proofs.TermLaws.{pattern_induction, occurrences_var, occurrences_app, pattern_is_over_var, pattern_is_over_app}
 use Rattle.timbuk_cli.specs.Glyphs.{Text, Glyph, word, mark}
-use Rattle.timbuk_cli.specs.Source.{spelled_pattern, spelled_pattern_step, spelled_patterns, spelled_more_patterns}
+use Rattle.timbuk_cli.specs.Source.{spelled_pattern, spelled_pattern_step, spelled_more_patterns}
 use Rattle.timbuk_cli.specs.SpecText.{IsAllowedPattern}
+use Rattle.timbuk_cli.specs.Reads.{ArePatterns, spelled_arguments}
 use Rattle.timbuk_cli.proofs.Fronts.{same_tail, same_word}
 
 -- ---- the equations of the folds
@@ -39,7 +40,7 @@ nesting_app f ps = fold_app ℕ nesting_step f ps
 pub spelled_var : (signature : List Symbol) (variables : List Text) (v : ℕ) → spelled_pattern signature variables (Var v) ≡ word (unwrap_or (slice_get variables v) []) ∷ []
 spelled_var signature variables v = fold_var (List Glyph) (spelled_pattern_step signature variables) v
 
-pub spelled_app : (signature : List Symbol) (variables : List Text) (f : ℕ) (ps : List Pattern) → spelled_pattern signature variables (App f ps) ≡ word (unwrap_or (name_of signature f) []) ∷ spelled_patterns (map (spelled_pattern signature variables) ps)
+pub spelled_app : (signature : List Symbol) (variables : List Text) (f : ℕ) (ps : List Pattern) → spelled_pattern signature variables (App f ps) ≡ word (unwrap_or (name_of signature f) []) ∷ spelled_arguments signature variables ps
 spelled_app signature variables f ps = fold_app (List Glyph) (spelled_pattern_step signature variables) f ps
 
 -- ---- the two forms of a pattern
@@ -81,12 +82,6 @@ module _ (signature : List Symbol) (count : ℕ) where
 
   abbrev IsBelow : ℕ → Type 0
   IsBelow v = v < count
-
-  -- a symbol and its arguments
-  pub record AreAllowedArguments (depth f : ℕ) (ps : List Pattern) : Type 0 where
-    pub arity : arity_of signature f ≡ Some (length ps)
-    pub args : All (Ok (depth - 1)) ps
-    pub deep : length ps ≢ 0 → depth ≢ 0
 
   pub allowed_weaker : (low high : ℕ) (p : Pattern) → low ≤ high → Ok low p → Ok high p
   allowed_weaker low high p le h = record { symbols = h.symbols; variables = h.variables; nesting = omega (arith, h.nesting, le) }
@@ -134,23 +129,23 @@ module _ (signature : List Symbol) (count : ℕ) where
   nesting_above depth [] n deep = omega arith
   nesting_above depth (p ∷ ps) n deep = let some = deep (λ e. omega (arith, e)) in omega (arith, n, some)
 
-  pub arguments_from_allowed : (depth f : ℕ) (ps : List Pattern) → Ok depth (App f ps) → AreAllowedArguments depth f ps
+  -- an allowed application: a symbol with as many arguments as its arity says
+  pub arguments_from_allowed : (depth f : ℕ) (ps : List Pattern) → Ok depth (App f ps) → (arity_of signature f ≡ Some (length ps)) × ArePatterns signature count depth (length ps) ps
   arguments_from_allowed depth f ps h =
       let s = both (is_symbol signature f (length ps)) (list_all (pattern_is_over signature) ps) (sym (pattern_is_over_app signature f ps) ∙ h.symbols) in
       let n = nesting_below depth ps (subst (λ n. n ≤ depth) (nesting_app f ps) h.nesting) in
-      record {
-        arity = arity_by (length ps) (arity_of signature f) s.0;
-        args = all_parts (depth - 1) ps s.1 (subst (All IsBelow) (occurrences_app f ps) h.variables) n.0;
-        deep = n.1;
-      }
+      (
+        arity_by (length ps) (arity_of signature f) s.0,
+        record { allowed = all_parts (depth - 1) ps s.1 (subst (All IsBelow) (occurrences_app f ps) h.variables) n.0; so_many = refl; deep = n.1 },
+      )
 
-  pub allowed_from_arguments : (depth f : ℕ) (ps : List Pattern) → AreAllowedArguments depth f ps → Ok depth (App f ps)
-  allowed_from_arguments depth f ps h = record {
+  pub allowed_from_arguments : (depth f many : ℕ) (ps : List Pattern) → arity_of signature f ≡ Some many → ArePatterns signature count depth many ps → Ok depth (App f ps)
+  allowed_from_arguments depth f many ps arity h = record {
     symbols =
         pattern_is_over_app signature f ps
-        ∙ both_true (is_symbol signature f (length ps)) (list_all (pattern_is_over signature) ps) (ap (is_arity (length ps)) h.arity ∙ eq-eqb (length ps) (length ps) refl) (are_over (depth - 1) ps h.args);
-    variables = subst (All IsBelow) (sym (occurrences_app f ps)) (are_below (depth - 1) ps h.args);
-    nesting = subst (λ n. n ≤ depth) (sym (nesting_app f ps)) (nesting_above depth ps (are_nested (depth - 1) ps h.args) h.deep);
+        ∙ both_true (is_symbol signature f (length ps)) (list_all (pattern_is_over signature) ps) (ap (is_arity (length ps)) arity ∙ eq-eqb (length ps) many h.so_many) (are_over (depth - 1) ps h.allowed);
+    variables = subst (All IsBelow) (sym (occurrences_app f ps)) (are_below (depth - 1) ps h.allowed);
+    nesting = subst (λ n. n ≤ depth) (sym (nesting_app f ps)) (nesting_above depth ps (are_nested (depth - 1) ps h.allowed) (λ some. h.deep (λ e. some (h.so_many ∙ e))));
   }
 
 -- ---- names
@@ -178,6 +173,21 @@ below_from_arity signature f n h =
       | inr b ↦ absurd (none-some n (sym (ap (option_map (λ s. s.1)) b.1) ∙ h))
     ]
 
+below_names : (signature : List Symbol) (f n : ℕ) → arity_of signature f ≡ Some n → f < length (names_of signature)
+below_names signature f n h = omega (arith, below_from_arity signature f n h, length-map signature (λ (s : Symbol). s.0))
+
+pub place_of_symbol_alone : (signature : List Symbol) (f n : ℕ) → arity_of signature f ≡ Some n → HasPlace (names_of signature) (unwrap_or (name_of signature f) []) f
+place_of_symbol_alone signature f n h = record {
+  within = below_names signature f n h;
+  is = ap (λ o. unwrap_or o []) (sym (slice_get-map (λ (s : Symbol). s.0) signature f)) ∙ unwrap_or-slice_get (names_of signature) f [];
+}
+
+pub place_further : (names more : List Text) (t : Text) (i : ℕ) → HasPlace names t i → HasPlace (names ++ more) t i
+place_further names more t i h = record {
+  within = omega (arith, h.within, length-append names more);
+  is = h.is ∙ sym (get_or_append_left names more [] i h.within);
+}
+
 module _ (signature : List Symbol) (variables : List Text) where
   abbrev names : List Text
   names = names_of signature ++ variables
@@ -191,19 +201,8 @@ module _ (signature : List Symbol) (variables : List Text) where
         ∙ sym (get_or-append_right (names_of signature) variables (length (names_of signature)) (length (names_of signature) + v) [] refl (omega arith)));
   }
 
-  below_names : (f n : ℕ) → arity_of signature f ≡ Some n → f < length (names_of signature)
-  below_names f n h = omega (arith, below_from_arity signature f n h, length-map signature (λ (s : Symbol). s.0))
-
   pub place_of_symbol : (f n : ℕ) → arity_of signature f ≡ Some n → HasPlace names (unwrap_or (name_of signature f) []) f
-  place_of_symbol f n h =
-      let lt = below_names f n h in
-      record {
-        within = omega (arith, lt, length-append (names_of signature) variables);
-        is =
-            ap (λ o. unwrap_or o []) (sym (slice_get-map (λ (s : Symbol). s.0) signature f))
-            ∙ (unwrap_or-slice_get (names_of signature) f []
-            ∙ sym (get_or_append_left (names_of signature) variables [] f lt));
-      }
+  place_of_symbol f n h = place_further (names_of signature) variables (unwrap_or (name_of signature f) []) f (place_of_symbol_alone signature f n h)
 
 -- ---- one reading
 
@@ -228,7 +227,7 @@ module _ (signature : List Symbol) (variables : List Text) (distinct : IsDistinc
   pub no_variable : (v f n : ℕ) → v < length variables → arity_of signature f ≡ Some n → text_of v ≢ title_of f
   no_variable v f n a b e =
       let k = same_place (names signature variables) distinct (text_of v) (title_of f) (length (names_of signature) + v) f (place_of_variable signature variables v a) (place_of_symbol signature variables f n b) e in
-      omega (arith, k, below_names signature variables f n b)
+      omega (arith, k, below_names signature f n b)
 
   module _ (depth : ℕ) where
     abbrev Allowed : Pattern → Type 0
@@ -249,7 +248,7 @@ module _ (signature : List Symbol) (variables : List Text) (distinct : IsDistinc
         let rest = same_more ps qs r s each.1 (All-tail Allowed p ps okp) (All-tail Allowed q qs okq) (omega (arith, n)) first.1 in
         (λ i. first.0 i ∷ rest.0 i, rest.1)
 
-    same_arguments : (ps qs : List Pattern) (r s : List Glyph) → AllByRecursion IsToldApart ps → All Allowed ps → All Allowed qs → length ps ≡ length qs → spelled_patterns (map spelled ps) ++ r ≡ spelled_patterns (map spelled qs) ++ s → (ps ≡ qs) × (r ≡ s)
+    same_arguments : (ps qs : List Pattern) (r s : List Glyph) → AllByRecursion IsToldApart ps → All Allowed ps → All Allowed qs → length ps ≡ length qs → spelled_arguments signature variables ps ++ r ≡ spelled_arguments signature variables qs ++ s → (ps ≡ qs) × (r ≡ s)
     same_arguments [] [] r s each okp okq n e = (refl, e)
     same_arguments [] (q ∷ qs) r s each okp okq n e = absurd (omega (arith, n))
     same_arguments (p ∷ ps) [] r s each okp okq n e = absurd (omega (arith, n))
@@ -264,7 +263,7 @@ module _ (signature : List Symbol) (variables : List Text) (distinct : IsDistinc
     as_variable : (p : Pattern) (v : ℕ) (r : List Glyph) → p ≡ Var v → spelled p ++ r ≡ word (text_of v) ∷ r
     as_variable p v r e = ap (λ q. spelled q ++ r) e ∙ ap (λ z. z ++ r) (spelled_var signature variables v)
 
-    as_application : (p : Pattern) (f : ℕ) (ps : List Pattern) (r : List Glyph) → p ≡ App f ps → spelled p ++ r ≡ word (title_of f) ∷ (spelled_patterns (map spelled ps) ++ r)
+    as_application : (p : Pattern) (f : ℕ) (ps : List Pattern) (r : List Glyph) → p ≡ App f ps → spelled p ++ r ≡ word (title_of f) ∷ (spelled_arguments signature variables ps ++ r)
     as_application p f ps r e = ap (λ q. spelled q ++ r) e ∙ ap (λ z. z ++ r) (spelled_app signature variables f ps)
 
     variable_told : (v : ℕ) → IsToldApart (Var v)
@@ -279,30 +278,30 @@ module _ (signature : List Symbol) (variables : List Text) (distinct : IsDistinc
             let same = same_variable v w (below_from_allowed signature (length variables) depth v okp) (below_from_allowed signature (length variables) depth w (subst Allowed is okq)) (same_word (text_of v) (text_of w) r s h) in
             (ap Var same ∙ sym is, same_tail (word (text_of v)) (word (text_of w)) r s h)
         by (application g qs is) =
-            let h : word (text_of v) ∷ r ≡ word (title_of g) ∷ (spelled_patterns (map spelled qs) ++ s) = head ∙ as_application q g qs s is in
+            let h : word (text_of v) ∷ r ≡ word (title_of g) ∷ (spelled_arguments signature variables qs ++ s) = head ∙ as_application q g qs s is in
             let args = arguments_from_allowed signature (length variables) depth g qs (subst Allowed is okq) in
-            absurd (no_variable v g (length qs) (below_from_allowed signature (length variables) depth v okp) args.arity (same_word (text_of v) (title_of g) r (spelled_patterns (map spelled qs) ++ s) h))
+            absurd (no_variable v g (length qs) (below_from_allowed signature (length variables) depth v okp) args.0 (same_word (text_of v) (title_of g) r (spelled_arguments signature variables qs ++ s) h))
 
     application_told : (f : ℕ) (ps : List Pattern) → AllByRecursion IsToldApart ps → IsToldApart (App f ps)
     application_told f ps each q r s okp okq e = by (form_of q)
       where
-        head : word (title_of f) ∷ (spelled_patterns (map spelled ps) ++ r) ≡ spelled q ++ s
+        head : word (title_of f) ∷ (spelled_arguments signature variables ps ++ r) ≡ spelled q ++ s
         head = sym (as_application (App f ps) f ps r refl) ∙ e
 
-        args : AreAllowedArguments signature (length variables) depth f ps
+        args : (arity_of signature f ≡ Some (length ps)) × ArePatterns signature (length variables) depth (length ps) ps
         args = arguments_from_allowed signature (length variables) depth f ps okp
 
         by : Form q → (App f ps ≡ q) × (r ≡ s)
         by (variable w is) =
-            let h : word (title_of f) ∷ (spelled_patterns (map spelled ps) ++ r) ≡ word (text_of w) ∷ s = head ∙ as_variable q w s is in
-            absurd (no_variable w f (length ps) (below_from_allowed signature (length variables) depth w (subst Allowed is okq)) args.arity (sym (same_word (title_of f) (text_of w) (spelled_patterns (map spelled ps) ++ r) s h)))
+            let h : word (title_of f) ∷ (spelled_arguments signature variables ps ++ r) ≡ word (text_of w) ∷ s = head ∙ as_variable q w s is in
+            absurd (no_variable w f (length ps) (below_from_allowed signature (length variables) depth w (subst Allowed is okq)) args.0 (sym (same_word (title_of f) (text_of w) (spelled_arguments signature variables ps ++ r) s h)))
         by (application g qs is) =
-            let h : word (title_of f) ∷ (spelled_patterns (map spelled ps) ++ r) ≡ word (title_of g) ∷ (spelled_patterns (map spelled qs) ++ s) = head ∙ as_application q g qs s is in
+            let h : word (title_of f) ∷ (spelled_arguments signature variables ps ++ r) ≡ word (title_of g) ∷ (spelled_arguments signature variables qs ++ s) = head ∙ as_application q g qs s is in
             let others = arguments_from_allowed signature (length variables) depth g qs (subst Allowed is okq) in
-            let same = same_symbol f g (length ps) (length qs) args.arity others.arity (same_word (title_of f) (title_of g) (spelled_patterns (map spelled ps) ++ r) (spelled_patterns (map spelled qs) ++ s) h) in
-            let count = same_Some (length ps) (length qs) (sym args.arity ∙ (ap (arity_of signature) same ∙ others.arity)) in
-            let both_args = same_arguments ps qs r s each (all_weaker signature (length variables) (depth - 1) depth ps (omega arith) args.args) (all_weaker signature (length variables) (depth - 1) depth qs (omega arith) others.args) count
-                (same_tail (word (title_of f)) (word (title_of g)) (spelled_patterns (map spelled ps) ++ r) (spelled_patterns (map spelled qs) ++ s) h) in
+            let same = same_symbol f g (length ps) (length qs) args.0 others.0 (same_word (title_of f) (title_of g) (spelled_arguments signature variables ps ++ r) (spelled_arguments signature variables qs ++ s) h) in
+            let count = same_Some (length ps) (length qs) (sym args.0 ∙ (ap (arity_of signature) same ∙ others.0)) in
+            let both_args = same_arguments ps qs r s each (all_weaker signature (length variables) (depth - 1) depth ps (omega arith) args.1.allowed) (all_weaker signature (length variables) (depth - 1) depth qs (omega arith) others.1.allowed) count
+                (same_tail (word (title_of f)) (word (title_of g)) (spelled_arguments signature variables ps ++ r) (spelled_arguments signature variables qs ++ s) h) in
             ((λ i. App (same i) (both_args.0 i)) ∙ sym is, both_args.1)
 
     -- an allowed pattern in front is the only one

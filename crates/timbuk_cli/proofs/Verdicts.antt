@@ -14,12 +14,10 @@ use Rattle.timbuk_cli.specs.Glyphs.{Text}
 use Rattle.timbuk_cli.specs.Words.{file_of}
 use Rattle.timbuk_cli.specs.Source.{RuleDeclaration}
 use Rattle.timbuk_cli.specs.SpecText.{SpecText, IsAllowedRule, rule_of}
+use Rattle.timbuk_cli.proofs.OneSpec.{one_spec}
 use Rattle.timbuk_cli.specs.Output.{IsSafe, Decides, Judges, Says, Answers, limit, line}
 use Rattle.timbuk_cli.specs.declared.status.Status.{Status}
 use Rattle.timbuk_cli.specs.declared.status.Status.TheVariants.{Unreachable, Undecided, BadWords, BadSpec, TooLong, ReadFault, WriteFault, Memory}
-
-one_spec : (bytes : List ℕ) (a b : Spec) → SpecText bytes a → SpecText bytes b → a ≡ b
-one_spec = ?
 
 -- an automaton without final states accepts nothing
 accepts_nothing : (A : TreeAutomaton) (t : Term) → A.finals ≡ [] → Accepts A t → ⊥

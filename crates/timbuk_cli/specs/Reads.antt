@@ -1,13 +1,14 @@
 -- What the readers of declarations answer. This project's own.
-use Rattle.std.specs.Prelude.{◌≡◌, ◌≢◌, ℕ, List, [], ◌∷◌, ◌++◌, All, Contains, map, length, codes}
+use Rattle.std.specs.Prelude.{◌≡◌, ◌≢◌, ℕ, zero, suc, ◌-◌, List, [], ◌∷◌, ◌++◌, All, Contains, map, length, codes}
 use Rattle.ranked_terms.specs.Names.{Symbol}
+use Rattle.ranked_terms.specs.declared.term.Pattern.{Pattern}
 use Rattle.ta_core.specs.TreeAutomaton.{TreeAutomaton}
 use Rattle.trs_rules.specs.Rules.{RewriteRule}
 use Rattle.timbuk_lex.specs.declared.lexeme.Lexeme.{Lexeme}
 use Rattle.timbuk_cli.specs.Vocabulary.{IsName}
 use Rattle.timbuk_cli.specs.Glyphs.{Text, Glyph, word, mark, glyphs_of, HasWord}
-use Rattle.timbuk_cli.specs.Source.{TransitionDeclaration, RuleDeclaration, spelled_name, spelled_rule, spelled_transition, spelled_all}
-use Rattle.timbuk_cli.specs.SpecText.{IsAllowedTransition, IsAllowedRule, AreRules, Numbers, rule_of}
+use Rattle.timbuk_cli.specs.Source.{TransitionDeclaration, RuleDeclaration, spelled_name, spelled_pattern, spelled_patterns, spelled_rule, spelled_transition, spelled_all}
+use Rattle.timbuk_cli.specs.SpecText.{IsAllowedPattern, IsAllowedTransition, IsAllowedRule, AreRules, Numbers, rule_of}
 
 -- ---- one declaration
 
@@ -69,6 +70,21 @@ spelled_next = spelled_after (codes ",")
 pub record AreArguments (states : List Text) (count : ℕ) (args : List Text) : Type 0 where
   pub are_states : All (Contains states) args
   pub so_many : length args ≡ count
+
+-- so many patterns that may stand as the arguments of a symbol, in a pattern whose symbols with arguments are nested at most so deep
+pub record ArePatterns (signature : List Symbol) (variables depth count : ℕ) (patterns : List Pattern) : Type 0 where
+  pub allowed : All (IsAllowedPattern signature variables (depth - 1)) patterns
+  pub so_many : length patterns ≡ count
+  pub deep : count ≢ 0 → depth ≢ 0
+
+-- patterns in parentheses, and nothing where there are none
+abbrev pub spelled_arguments : List Symbol → List Text → List Pattern → List Glyph
+spelled_arguments signature variables patterns = spelled_patterns (map (spelled_pattern signature variables) patterns)
+
+-- the mark in front of the argument of this index
+abbrev pub mark_before : ℕ → Text
+mark_before zero = codes "("
+mark_before (suc index) = codes ","
 
 -- any text
 abbrev pub AnyText : Text → Type 0

@@ -57,7 +57,7 @@ fn is_closed_from(
     if more == 0 {
         return is_closed_at(alloc, automaton, rule, states.as_slice());
     }
-    for state in automaton.states().get(1..).unwrap_or(&[]) {
+    for state in automaton.states() {
         states.push(*state)?;
         let closed = is_closed_from(alloc, automaton, rule, states, more - 1)?;
         let _ = states.pop();
