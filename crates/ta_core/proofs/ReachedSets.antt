@@ -54,8 +54,7 @@ one_more_target set eps k d all next l h e q =
     let x : ℕ × ℕ = get_or eps k d in
     let more : take (k + 1) eps ≡ take k eps ++ x ∷ [] = take_more eps k d l in
     let inserted : Contains next q ↔ (Contains all q ⊎ (x.1 ≡ q)) = subst (λ next. Contains next q ↔ (Contains all q ⊎ (x.1 ≡ q))) (sym e) (members_insert all x.1 q) in
-    rw more
-    (
+    rw more (
       λ c. ⊎_elim
           (λ i. ⊎_elim (λ old. inl old) (λ target. inr (target.0, Contains-append_left (take k eps) (x ∷ []) (target.0, q) target.1)) ((h q).0 i))
           (λ same. inr (x.0, subst (λ y. Contains (take k eps ++ x ∷ []) (x.0, y)) same (Contains-push (take k eps) x)))
@@ -117,18 +116,22 @@ module _ (A : TreeAutomaton) (start set : List ℕ) (at : ℕ) (c : IsClosing A 
         let r = c.reached state state_in in
         record { start = r.start; starts = r.starts; reaches = Reaches.on (subst (Reaches A r.start) (sym e.1) r.reaches) e.0 }
 
+    -- the members that were followed, and the one that is
+    followed : (p : ℕ) → Contains (take (at + 1) next) p → Contains (take at set) p ⊎ (state ≡ p)
+    followed p i =
+        let inside = slice_get_within set at state found in
+        let same : take (at + 1) next ≡ take at set ++ state ∷ [] = ap (take (at + 1)) kept.1 ∙ (take-append-le (at + 1) set kept.0 (omega (arith, inside)) ∙ take_found set at state found) in
+        Contains-push_cases (take at set) state p (subst (λ l. Contains l p) same i)
+
     pub closing_more : IsClosing A start (at + 1) next
     closing_more =
         let end : at < length set = slice_get_within set at state found in
-        let first : (p : ℕ) → Contains (take (at + 1) next) p → Contains (take at set) p ⊎ (state ≡ p) = λ p i.
-            Contains-push_cases (take at set) state p (subst (λ l. Contains l p) (ap (take (at + 1)) kept.1 ∙ (take-append-le (at + 1) set kept.0 (omega (arith, end)) ∙ take_found set at state found)) i)
-        in
         record {
           within = omega (arith, end, ap length kept.1, length-append set kept.0);
           keeps = λ q i. (targets q).1 (inl (c.keeps q i));
           reached = λ q i. ⊎_elim (c.reached q) (λ target. on q target.0 ((from (target.0, q)).0 target.1)) ((targets q).0 i);
           inside = all_from_members (Contains A.states) next (λ q i. ⊎_elim (All-contains (Contains A.states) set q c.inside) (λ target. (All-contains (IsEpsOf A.states) A.eps (target.0, q) sound.eps ((from (target.0, q)).0 target.1).0).to) ((targets q).0 i));
-          closed = λ p q i at_p. (targets q).1 (⊎_elim (λ before. inl (c.closed p q i before)) (λ same. inr (p, (from (p, q)).1 (i, sym same))) (first p at_p));
+          closed = λ p q i at_p. (targets q).1 (⊎_elim (λ before. inl (c.closed p q i before)) (λ same. inr (p, (from (p, q)).1 (i, sym same))) (followed p at_p));
         }
 
   -- at the end of the set

@@ -1,17 +1,16 @@
 -- From the states of the arguments to the states of an application.
-use Rattle.std.proofs.Common.{◌≡◌, ℕ, suc, zero, ◌+◌, ◌<◌, ◌↔◌, ◌==◌, Bool, true, false, IsTrue, List, [], ◌∷◌, ◌++◌, length, get_or, take, map, zip, Result, Ok, Err, IfOk, refl, sym, ap, ◌∙◌, subst, inl, inr, ⊎_elim, true≢false, arith}
+use Rattle.std.proofs.Common.{◌≡◌, ℕ, suc, zero, ◌<◌, ◌↔◌, ◌==◌, Bool, true, false, IsTrue, List, [], ◌∷◌, ◌++◌, length, map, zip, Result, Ok, Err, IfOk, refl, sym, ap, ◌∙◌, subst, inl, inr, ⊎_elim, true≢false, arith}
 use Rattle.std.specs.Bool.{MatchBool}
-use Rattle.std.specs.List.{Contains, All, AllZip, AllWithin, HoldsAt}
-use Rattle.std.proofs.lemmas.List.Elements.{Contains-push_cases, Contains-append_left, Contains-push, All-cons, All-nil, All-contains}
+use Rattle.std.specs.List.{Contains, AllZip, AllWithin, HoldsAt}
+use Rattle.std.proofs.lemmas.List.Elements.{Contains-push_cases, Contains-append_left, Contains-push}
 use Rattle.indexmap.specs.IndexSet.{insert_key}
 use Rattle.ranked_terms.specs.Terms.{config_of, config_step}
 use Rattle.ranked_terms.specs.declared.term.Term.{Term}
-use Rattle.ranked_terms.specs.declared.term.Term.TheOpen.{Term-F}
 use Rattle.ranked_terms.specs.declared.term.Term.TheViews.{out-Term, roll-out-Term}
 use Rattle.ranked_terms.specs.declared.term.Term.TheFolds.{fold-roll-Term}
 use Rattle.ranked_terms.specs.declared.term.Config.{Config, State, App}
-use Rattle.ta_core.specs.TreeAutomaton.{TreeAutomaton, IsSound, IsTransOf, trans_of}
-use Rattle.ta_core.specs.Runs.{Runs, RunsAll, Reaches}
+use Rattle.ta_core.specs.TreeAutomaton.{TreeAutomaton, trans_of}
+use Rattle.ta_core.specs.Runs.{Runs, RunsAll}
 use Rattle.ta_core.specs.Reached.{ReachedFrom, HasTransInto, EntersAndReaches}
 use Rattle.ta_core.specs.declared.trans.Trans.{Trans}
 use Rattle.ta_core.proofs.Members.{none, here, parts}

@@ -1,5 +1,4 @@
 -- Reachable and forbidden terms of a specification (Feuillade, Genet and Viet Triem Tong, JAR 2004; Genet and Rusu, JSC 2010).
-use Rattle.std.specs.Prelude.{◌≡◌, List}
 use Rattle.ranked_terms.specs.declared.term.Term.{Term}
 use Rattle.trs_rules.specs.Steps.{Leads}
 use Rattle.ta_core.specs.Languages.{Language}

@@ -262,45 +262,62 @@ fn binary_term(alloc: Global, left: Term, right: Term) -> Result<Term, AllocErro
     })
 }
 
+// Whether these are the states to which the configuration runs.
+fn is_run(automaton: &Automaton, config: &Config, all: &[u32]) -> Result<bool, AllocError> {
+    Ok(automaton.run_states(config)?.as_slice() == all)
+}
+
+// Whether these are the states to which the state runs.
+fn is_closure(automaton: &Automaton, state: u32, all: &[u32]) -> Result<bool, AllocError> {
+    Ok(automaton.eps_closure(state)?.as_slice() == all)
+}
+
 #[test]
 fn runs_a_state_along_epsilon_transitions(rt: HostRuntime) -> Result<(), Fail> {
     let automaton = six_states(rt.alloc())?;
     for (state, all) in [(2, &[2, 3, 4][..]), (0, &[0][..]), (9, &[][..])] {
-        let run = automaton.run_states(&Config::State(state))?;
-        assert_eq!(rt; run.as_slice(), all, "at {state}");
-        let closure = automaton.eps_closure(state)?;
-        assert_eq!(rt; closure.as_slice(), all, "from {state}");
+        assert!(rt;
+            is_run(&automaton, &Config::State(state), all)?,
+            "at {state}"
+        );
+        assert!(rt; is_closure(&automaton, state, all)?, "from {state}");
     }
     Ok(())
 }
 
-#[test]
-fn runs_nested_arguments(rt: HostRuntime) -> Result<(), Fail> {
-    let alloc = rt.alloc();
-    let automaton = six_states(alloc)?;
+// The configurations `2(1(0), 0)`, `2(0, 0)` and `1(5)`, of which the last holds the state 5.
+fn configs(alloc: Global) -> Result<[Config; 3], AllocError> {
     let nested = binary(alloc, unary(alloc, constant(alloc))?, constant(alloc))?;
-    assert_eq!(rt; automaton.run_states(&nested)?.as_slice(), [2, 3, 4].as_slice());
     let stuck = binary(alloc, constant(alloc), constant(alloc))?;
-    assert_eq!(rt; automaton.run_states(&stuck)?.as_slice(), [].as_slice());
-    Ok(())
+    let above = unary(alloc, Config::State(5))?;
+    Ok([nested, stuck, above])
 }
 
 #[test]
-fn runs_from_a_state_that_no_term_runs_to(rt: HostRuntime) -> Result<(), Fail> {
+fn runs_nested_arguments(rt: HostRuntime) -> Result<(), Fail> {
     let automaton = six_states(rt.alloc())?;
-    let config = unary(rt.alloc(), Config::State(5))?;
-    assert_eq!(rt; automaton.run_states(&config)?.as_slice(), [5].as_slice());
+    let configs = configs(rt.alloc())?;
+    let runs = [&[2, 3, 4][..], &[][..], &[5][..]];
+    for (config, all) in configs.iter().zip(&runs) {
+        assert!(rt; is_run(&automaton, config, *all)?);
+    }
     Ok(())
+}
+
+// The terms `1(0)` and `2(1(0), 0)`.
+fn terms(alloc: Global) -> Result<[Term; 2], AllocError> {
+    let inner = unary_term(alloc, constant_term(alloc))?;
+    let nested = binary_term(alloc, inner.copy(alloc)?, constant_term(alloc))?;
+    Ok([inner, nested])
 }
 
 #[test]
 fn accepts_what_runs_to_a_final_state(rt: HostRuntime) -> Result<(), Fail> {
-    let alloc = rt.alloc();
-    let automaton = six_states(alloc)?;
-    let inner = unary_term(alloc, constant_term(alloc))?;
-    assert_eq!(rt; automaton.accepts(&inner)?, false);
-    let nested = binary_term(alloc, inner, constant_term(alloc))?;
-    assert_eq!(rt; automaton.accepts(&nested)?, true);
+    let automaton = six_states(rt.alloc())?;
+    let terms = terms(rt.alloc())?;
+    for (term, accepted) in terms.iter().zip(&[false, true]) {
+        assert_eq!(rt; automaton.accepts(term)?, *accepted);
+    }
     Ok(())
 }
 
@@ -308,7 +325,7 @@ fn accepts_what_runs_to_a_final_state(rt: HostRuntime) -> Result<(), Fail> {
 fn finds_the_members_of_a_set(rt: HostRuntime) -> Result<(), Fail> {
     let set = StateSet::from_slice(rt.alloc(), &[1, 4, 7])?;
     assert_eq!(rt; set.as_slice(), [1, 4, 7].as_slice());
-    for (state, member) in [(1, true), (4, true), (7, true), (0, false), (5, false)] {
+    for (state, member) in [(1, true), (7, true), (0, false), (5, false)] {
         assert_eq!(rt; set.contains(state), member, "at {state}");
     }
     Ok(())

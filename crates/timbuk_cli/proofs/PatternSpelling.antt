@@ -1,8 +1,8 @@
 -- Patterns: what is allowed, case by case, and that a spelling is read in one way only.
-use Rattle.std.proofs.Common.{◌≡◌, ◌≢◌, ℕ, ◌+◌, ◌-◌, ◌<◌, ◌≤◌, inl, inr, max, Bool, true, false, ◌&&◌, ◌==◌, List, [], ◌∷◌, ◌++◌, Option, Some, None, All, map, length, slice_get, get_or, codes, option_map, unwrap_or, refl, sym, ap, subst, ◌∙◌, append_assoc, length-append, true≢false, arith}
+use Rattle.std.proofs.Common.{◌≡◌, ◌≢◌, ℕ, ◌+◌, ◌-◌, ◌<◌, ◌≤◌, inl, inr, true, List, [], ◌∷◌, ◌++◌, Option, Some, None, All, map, length, slice_get, get_or, codes, option_map, unwrap_or, refl, sym, ap, subst, ◌∙◌, append_assoc, length-append, true≢false, arith}
 use Rattle.std.specs.List.{AllByRecursion, IsDistinct, list_all}
 use Rattle.std.specs.Str.{bytes_eq}
-use Rattle.std.proofs.lemmas.Bool.{eqb-true, eq-eqb}
+use Rattle.std.proofs.lemmas.Bool.{and_from, and_parts, eqb-true, eq-eqb}
 use Rattle.std.proofs.lemmas.List.{length-map, get_or-append_right, get_or_append_left}
 use Rattle.std.proofs.lemmas.List.Elements.{All-nil, All-cons, All-head, All-tail, All-append, All-weaker}
 use Rattle.std.proofs.lemmas.Map.Keys.{apart_from_distinct}
@@ -54,14 +54,6 @@ form_of = pattern_induction Form (λ v. variable v refl) (λ f ps _. application
 
 -- ---- small facts
 
-both : (a b : Bool) → (a && b) ≡ true → (a ≡ true) × (b ≡ true)
-both true b e = (refl, e)
-both false b e = absurd (true≢false (sym e))
-
-both_true : (a b : Bool) → a ≡ true → b ≡ true → (a && b) ≡ true
-both_true true b e h = h
-both_true false b e h = absurd (true≢false (sym e))
-
 front_of_all : {X : Type 0} (P : X → Type 0) (xs ys : List X) → All P (xs ++ ys) → All P xs
 front_of_all P [] ys h = All-nil P
 front_of_all P (x ∷ xs) ys h = All-cons P x xs (All-head P x (xs ++ ys) h) (front_of_all P xs ys (All-tail P x (xs ++ ys) h))
@@ -102,15 +94,15 @@ module _ (signature : List Symbol) (count : ℕ) where
   all_parts : (depth : ℕ) (ps : List Pattern) → list_all (pattern_is_over signature) ps ≡ true → All IsBelow (joined (map occurrences ps)) → greatest (map nesting_of ps) ≤ depth → All (Ok depth) ps
   all_parts depth [] s v n = All-nil (Ok depth)
   all_parts depth (p ∷ ps) s v n =
-      let t = both (pattern_is_over signature p) (list_all (pattern_is_over signature) ps) s in
+      let t = and_parts (pattern_is_over signature p) (list_all (pattern_is_over signature) ps) s in
       All-cons (Ok depth) p ps
-        (record { symbols = t.0; variables = front_of_all IsBelow (occurrences p) (joined (map occurrences ps)) v; nesting = omega (arith, n, le-max_left (nesting_of p) (greatest (map nesting_of ps))) })
-        (all_parts depth ps t.1 (rest_of_all IsBelow (occurrences p) (joined (map occurrences ps)) v) (omega (arith, n, le-max_right (nesting_of p) (greatest (map nesting_of ps)))))
+      (record { symbols = t.0; variables = front_of_all IsBelow (occurrences p) (joined (map occurrences ps)) v; nesting = omega (arith, n, le-max_left (nesting_of p) (greatest (map nesting_of ps))) })
+      (all_parts depth ps t.1 (rest_of_all IsBelow (occurrences p) (joined (map occurrences ps)) v) (omega (arith, n, le-max_right (nesting_of p) (greatest (map nesting_of ps)))))
 
   are_over : (depth : ℕ) (ps : List Pattern) → All (Ok depth) ps → list_all (pattern_is_over signature) ps ≡ true
   are_over depth [] h = refl
   are_over depth (p ∷ ps) h =
-      both_true (pattern_is_over signature p) (list_all (pattern_is_over signature) ps) (All-head (Ok depth) p ps h).symbols (are_over depth ps (All-tail (Ok depth) p ps h))
+      and_from (pattern_is_over signature p) (list_all (pattern_is_over signature) ps) (All-head (Ok depth) p ps h).symbols (are_over depth ps (All-tail (Ok depth) p ps h))
 
   are_below : (depth : ℕ) (ps : List Pattern) → All (Ok depth) ps → All IsBelow (joined (map occurrences ps))
   are_below depth [] h = All-nil IsBelow
@@ -132,9 +124,8 @@ module _ (signature : List Symbol) (count : ℕ) where
   -- an allowed application: a symbol with as many arguments as its arity says
   pub arguments_from_allowed : (depth f : ℕ) (ps : List Pattern) → Ok depth (App f ps) → (arity_of signature f ≡ Some (length ps)) × ArePatterns signature count depth (length ps) ps
   arguments_from_allowed depth f ps h =
-      let s = both (is_symbol signature f (length ps)) (list_all (pattern_is_over signature) ps) (sym (pattern_is_over_app signature f ps) ∙ h.symbols) in
-      let n = nesting_below depth ps (subst (λ n. n ≤ depth) (nesting_app f ps) h.nesting) in
-      (
+      let s = and_parts (is_symbol signature f (length ps)) (list_all (pattern_is_over signature) ps) (sym (pattern_is_over_app signature f ps) ∙ h.symbols) in
+      let n = nesting_below depth ps (subst (λ n. n ≤ depth) (nesting_app f ps) h.nesting) in (
         arity_by (length ps) (arity_of signature f) s.0,
         record { allowed = all_parts (depth - 1) ps s.1 (subst (All IsBelow) (occurrences_app f ps) h.variables) n.0; so_many = refl; deep = n.1 },
       )
@@ -143,7 +134,7 @@ module _ (signature : List Symbol) (count : ℕ) where
   allowed_from_arguments depth f many ps arity h = record {
     symbols =
         pattern_is_over_app signature f ps
-        ∙ both_true (is_symbol signature f (length ps)) (list_all (pattern_is_over signature) ps) (ap (is_arity (length ps)) arity ∙ eq-eqb (length ps) many h.so_many) (are_over (depth - 1) ps h.allowed);
+        ∙ and_from (is_symbol signature f (length ps)) (list_all (pattern_is_over signature) ps) (ap (is_arity (length ps)) arity ∙ eq-eqb (length ps) many h.so_many) (are_over (depth - 1) ps h.allowed);
     variables = subst (All IsBelow) (sym (occurrences_app f ps)) (are_below (depth - 1) ps h.allowed);
     nesting = subst (λ n. n ≤ depth) (sym (nesting_app f ps)) (nesting_above depth ps (are_nested (depth - 1) ps h.allowed) (λ some. h.deep (λ e. some (h.so_many ∙ e))));
   }
@@ -300,9 +291,9 @@ module _ (signature : List Symbol) (variables : List Text) (distinct : IsDistinc
             let others = arguments_from_allowed signature (length variables) depth g qs (subst Allowed is okq) in
             let same = same_symbol f g (length ps) (length qs) args.0 others.0 (same_word (title_of f) (title_of g) (spelled_arguments signature variables ps ++ r) (spelled_arguments signature variables qs ++ s) h) in
             let count = same_Some (length ps) (length qs) (sym args.0 ∙ (ap (arity_of signature) same ∙ others.0)) in
-            let both_args = same_arguments ps qs r s each (all_weaker signature (length variables) (depth - 1) depth ps (omega arith) args.1.allowed) (all_weaker signature (length variables) (depth - 1) depth qs (omega arith) others.1.allowed) count
-                (same_tail (word (title_of f)) (word (title_of g)) (spelled_arguments signature variables ps ++ r) (spelled_arguments signature variables qs ++ s) h) in
-            ((λ i. App (same i) (both_args.0 i)) ∙ sym is, both_args.1)
+            let same_args = same_arguments ps qs r s each (all_weaker signature (length variables) (depth - 1) depth ps (omega arith) args.1.allowed) (all_weaker signature (length variables) (depth - 1) depth qs (omega arith) others.1.allowed) count
+            (same_tail (word (title_of f)) (word (title_of g)) (spelled_arguments signature variables ps ++ r) (spelled_arguments signature variables qs ++ s) h) in
+            ((λ i. App (same i) (same_args.0 i)) ∙ sym is, same_args.1)
 
     -- an allowed pattern in front is the only one
     pub same_pattern : (p q : Pattern) (r s : List Glyph) → Allowed p → Allowed q → spelled p ++ r ≡ spelled q ++ s → (p ≡ q) × (r ≡ s)

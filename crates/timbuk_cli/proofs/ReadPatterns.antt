@@ -1,9 +1,8 @@
 -- A pattern in front of tokens: a variable, or a symbol and its arguments.
-use Rattle.std.proofs.Common.{◌≡◌, ◌≢◌, ℕ, zero, suc, ◌+◌, ◌-◌, ◌<◌, ◌≤◌, List, [], ◌∷◌, ◌++◌, Some, None, All, Contains, map, length, drop, get_or, slice_get, codes, unwrap_or, refl, sym, ap, subst, ◌∙◌, append_assoc, length-append, arith}
+use Rattle.std.proofs.Common.{◌≡◌, ℕ, ◌<◌, List, [], ◌∷◌, ◌++◌, Some, None, Contains, length, get_or, slice_get, unwrap_or, refl, sym, ap, subst, ◌∙◌}
 use Rattle.std.specs.List.{IsDistinct}
 use Rattle.std.specs.Str.{bytes_eq}
-use Rattle.std.proofs.lemmas.List.{length_push, get_or_append_left}
-use Rattle.std.proofs.lemmas.List.Elements.{All-nil, All-head, All-tail, All-push, Contains-get_or}
+use Rattle.std.proofs.lemmas.List.Elements.{Contains-get_or}
 use Rattle.std.proofs.lemmas.List.Quantifiers.{position-Some}
 use Rattle.std.proofs.lemmas.Option.{same_Some, none-some, slice_get-get_or, unwrap_or-slice_get}
 use Rattle.std.proofs.lemmas.Slice.Eq.{bytes_eq-Decides}
@@ -11,14 +10,13 @@ use Rattle.ranked_terms.specs.Names.{Symbol, names_of, name_of, arity_of}
 use Rattle.ranked_terms.specs.declared.term.Pattern.{Pattern}
 use Rattle.ranked_terms.specs.declared.term.Pattern.TheVariants.{Var, App}
 use Rattle.timbuk_lex.specs.declared.lexeme.Lexeme.{Lexeme}
-use Rattle.timbuk_cli.specs.Glyphs.{Text, Glyph, word, mark, glyphs_of, HasWord}
-use Rattle.timbuk_cli.specs.Source.{spelled_name, spelled_pattern, spelled_more_patterns}
+use Rattle.timbuk_cli.specs.Glyphs.{Text, Glyph, word, glyphs_of}
+use Rattle.timbuk_cli.specs.Source.{spelled_name, spelled_pattern}
 use Rattle.timbuk_cli.specs.SpecText.{IsAllowedPattern, place_in}
-use Rattle.timbuk_cli.specs.Reads.{Reads, Lacks, FollowsMark, LacksMark, ArePatterns, spelled_arguments}
-use Rattle.timbuk_cli.proofs.Decoding.{rest_at}
+use Rattle.timbuk_cli.specs.Reads.{Reads, Lacks, ArePatterns, spelled_arguments}
 use Rattle.timbuk_cli.proofs.Fronts.{same_tail, same_word}
 use Rattle.timbuk_cli.proofs.Transitions.{position_from_contains}
-use Rattle.timbuk_cli.proofs.PatternSpelling.{Form, variable, application, form_of, HasPlace, same_place, place_of_symbol, place_of_symbol_alone, place_further, spelled_var, spelled_app, same_pattern, below_from_allowed, allowed_from_below, arguments_from_allowed, allowed_from_arguments}
+use Rattle.timbuk_cli.proofs.PatternSpelling.{Form, variable, application, form_of, HasPlace, same_place, place_of_symbol, place_of_symbol_alone, place_further, spelled_var, spelled_app, below_from_allowed, allowed_from_below, arguments_from_allowed, allowed_from_arguments}
 
 -- ---- a name and its place
 
@@ -105,7 +103,7 @@ module _ (signature : List Symbol) (variables : List Text) (distinct : IsDistinc
           let args = arguments_from_allowed signature (length variables) depth f ps (subst Allowed is ok) in
           let h : word r.declaration ∷ glyphs_of ys ≡ word (title_of f) ∷ (spelled_arguments signature variables ps ++ after) = sym r.glyphs ∙ title_head f ps (glyphs_of xs) after d is e in
           let same = same_place (names_of signature ++ variables) distinct r.declaration (title_of f) symbol f (place_further (names_of signature) variables r.declaration symbol symbol_place) (place_of_symbol signature variables f (length ps) args.0)
-              (same_word r.declaration (title_of f) (glyphs_of ys) (spelled_arguments signature variables ps ++ after) h) in
+          (same_word r.declaration (title_of f) (glyphs_of ys) (spelled_arguments signature variables ps ++ after) h) in
           record {
             args = ps;
             arity = ap (arity_of signature) same ∙ args.0;

@@ -1,25 +1,26 @@
 -- What one rule reads, and many rules.
-use Rattle.std.proofs.Common.{◌≡◌, ◌≢◌, ◌↔◌, ℕ, ◌<◌, ◌≤◌, Bool, true, false, ◌&&◌, List, [], ◌∷◌, ◌++◌, Result, Ok, Err, Option, Some, None, IsTrue, All, map, length, drop, codes, refl, sym, ap, subst, ◌∙◌, append-nil, length-append, arith}
-use Rattle.std.specs.List.{IsDistinct, list_all}
+use Rattle.std.proofs.Common.{◌≡◌, ℕ, ◌<◌, ◌≤◌, true, ◌&&◌, List, [], ◌∷◌, ◌++◌, Some, IsTrue, All, map, length, drop, codes, refl, sym, ap, subst, ◌∙◌, append-nil, length-append, arith}
+use Rattle.std.specs.List.{IsDistinct}
 use Rattle.std.specs.Str.{bytes_eq}
+use Rattle.std.proofs.lemmas.Bool.{and_from}
 use Rattle.std.proofs.lemmas.List.{length-map, length-drop}
 use Rattle.std.proofs.lemmas.List.Elements.{All-head, All-tail}
 use Rattle.std.proofs.lemmas.Option.{none-some}
 use Rattle.ranked_terms.specs.Names.{Symbol, names_of}
 use Rattle.ranked_terms.specs.Terms.{pattern_is_over, occurrences, variables_of}
 use Rattle.ranked_terms.specs.declared.term.Pattern.{Pattern}
-use Rattle.trs_rules.specs.Rules.{RewriteRule, IsRule, IsVariable, IsLinear, IsBound}
+use Rattle.trs_rules.specs.Rules.{RewriteRule, IsRule, IsVariable}
 use Rattle.trs_rules.specs.Variables.{first_repeat, first_free}
 use Rattle.trs_rules.specs.declared.rule.RuleFault.{RuleFault}
 use Rattle.trs_rules.specs.declared.rule.RuleFault.TheVariants.{VariableLeft, NotLeftLinear, FreeVariable, TooManyVariables}
 use Rattle.trs_rules.proofs.RuleLaws.{none_from_linear, none_from_bound}
 use Rattle.ta_core.specs.SpecRules.{rules_are_over}
 use Rattle.timbuk_lex.specs.declared.lexeme.Lexeme.{Lexeme}
-use Rattle.timbuk_cli.specs.Glyphs.{Text, Glyph, mark, glyph_of, glyphs_of, HasWord}
+use Rattle.timbuk_cli.specs.Glyphs.{Text, Glyph, mark, glyph_of, glyphs_of}
 use Rattle.timbuk_cli.specs.Source.{RuleDeclaration, spelled_pattern, spelled_rule, spelled_all}
-use Rattle.timbuk_cli.specs.SpecText.{IsAllowedPattern, IsAllowedRule, AreRules, rule_of}
-use Rattle.timbuk_cli.specs.Reads.{Reads, Lacks, ReadsSome, ReadsAll, LacksAll, ReadsRules, LacksRules, FollowsMark, LacksMark}
-use Rattle.timbuk_cli.proofs.Decoding.{left_of, reads_all, lacks_all_at}
+use Rattle.timbuk_cli.specs.SpecText.{IsAllowedPattern, IsAllowedRule, rule_of}
+use Rattle.timbuk_cli.specs.Reads.{Reads, Lacks, ReadsSome, LacksRules, FollowsMark, LacksMark}
+use Rattle.timbuk_cli.proofs.Decoding.{left_of, lacks_all_at}
 use Rattle.timbuk_cli.proofs.Fronts.{same_tail}
 use Rattle.timbuk_cli.proofs.PatternSpelling.{same_pattern}
 use Rattle.timbuk_cli.proofs.RuleSpelling.{behind_left, Decodes-rule}
@@ -122,32 +123,18 @@ module _ (signature : List Symbol) (variables : List Text) (distinct : IsDistinc
     none = λ ds ok e.
         let n = as_many values r.declarations r.are in
         let whole : spelled_all (spelled_rule signature variables) ds ++ [] ≡ spelled_all (spelled_rule signature variables) r.declarations ++ glyphs_of (drop at xs) =
-            append-nil (spelled_all (spelled_rule signature variables) ds) ∙ (sym e ∙ r.glyphs) in
+        append-nil (spelled_all (spelled_rule signature variables) ds) ∙ (sym e ∙ r.glyphs) in
         let l = left_of (spelled_rule signature variables) Allowed (Decodes-rule signature variables distinct) ds r.declarations [] (glyphs_of (drop at xs)) ok.allowed r.allowed (omega (arith, ok.few, many, n)) whole in
         omega (arith, below, length-drop at xs, length-map (drop at xs) glyph_of, ap length l.1, length-append (spelled_all (spelled_rule signature variables) l.0) (glyphs_of (drop at xs)));
   }
-
-  pub reads_rules : (xs rest : List Lexeme) (values : List RewriteRule) → length rest ≡ 0 → AreRead xs values rest → length values ≤ 4096 → ReadsRules signature variables xs values
-  reads_rules xs rest values none r few =
-      let all = reads_all (spelled_rule signature variables) Allowed rule_of xs rest values none r in
-      record {
-        declarations = all.declarations;
-        allowed = record { allowed = all.allowed; few = omega (arith, few, as_many values all.declarations all.are) };
-        glyphs = all.glyphs;
-        are = all.are;
-      }
-
-  both_true : (a b : Bool) → a ≡ true → b ≡ true → (a && b) ≡ true
-  both_true true b e h = h
-  both_true false b e h = cc
 
   all_over : (ds : List RuleDeclaration) → All Allowed ds → rules_are_over signature (map rule_of ds) ≡ true
   all_over [] ok = refl
   all_over (d ∷ ds) ok =
       let first = All-head Allowed d ds ok in
-      both_true (pattern_is_over signature d.left && pattern_is_over signature d.right) (rules_are_over signature (map rule_of ds))
-        (both_true (pattern_is_over signature d.left) (pattern_is_over signature d.right) first.left.symbols first.right.symbols)
-        (all_over ds (All-tail Allowed d ds ok))
+      and_from (pattern_is_over signature d.left && pattern_is_over signature d.right) (rules_are_over signature (map rule_of ds))
+      (and_from (pattern_is_over signature d.left) (pattern_is_over signature d.right) first.left.symbols first.right.symbols)
+      (all_over ds (All-tail Allowed d ds ok))
 
   pub are_over : (xs rest : List Lexeme) (values : List RewriteRule) → AreRead xs values rest → IsTrue (rules_are_over signature values)
   are_over xs rest values r = ap (rules_are_over signature) r.are ∙ all_over r.declarations r.allowed

@@ -8,7 +8,7 @@ use Rattle.timbuk_lex.specs.declared.lexeme.Lexeme.{Lexeme}
 use Rattle.timbuk_cli.specs.Vocabulary.{IsName}
 use Rattle.timbuk_cli.specs.Glyphs.{Text, Glyph, word, mark, glyphs_of, HasWord}
 use Rattle.timbuk_cli.specs.Source.{TransitionDeclaration, RuleDeclaration, spelled_name, spelled_pattern, spelled_patterns, spelled_rule, spelled_transition, spelled_all}
-use Rattle.timbuk_cli.specs.SpecText.{IsAllowedPattern, IsAllowedTransition, IsAllowedRule, AreRules, Numbers, rule_of}
+use Rattle.timbuk_cli.specs.SpecText.{IsAllowedPattern, IsAllowedTransition, AreRules, Numbers, rule_of}
 
 -- ---- one declaration
 

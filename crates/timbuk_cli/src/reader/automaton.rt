@@ -9,7 +9,7 @@ ghost use Rattle.timbuk_cli.specs.SpecText.{place_in, transition_of, IsAllowedTr
 ghost use Rattle.timbuk_cli.specs.Reads.{ReadsAll, LacksAll, ReadsAutomaton, LacksAutomaton};
 
 use crate::reader::SpecError;
-use crate::reader::front::first_state;
+use crate::reader::front::first_name;
 use crate::reader::names::NameTable;
 use crate::reader::transition::read_transition;
 use ranked_terms::{Seq, Signature};
@@ -27,7 +27,7 @@ fn read_finals(alloc: Global, states: &NameTable, lexemes: &[Lexeme]) -> Result<
     let mut finals = Seq::new(alloc);
     let mut at = 0;
     while at < lexemes.len() {
-        let (state, rest) = first_state(states, &lexemes[at..]).ok_or(SpecError::Unread)?;
+        let (state, rest) = first_name(states, &lexemes[at..]).ok_or(SpecError::Unread)?;
         finals.push(state)?;
         at = lexemes.len() - rest.len();
     }

@@ -39,18 +39,19 @@ pub(crate) fn first_word<'s, 'a>(lexemes: &'s [Lexeme<'a>]) -> Option<(&'a str, 
     Some((word, rest))
 }
 
-/// The number of the state in front, and what follows it. `None` exactly where the tokens don't begin with a state.
-pub(crate) fn first_state<'s, 'a>(
-    states: &NameTable,
+/// The number of the name in front, and what follows it. `None` exactly where the tokens don't begin with a name of the
+/// table.
+pub(crate) fn first_name<'s, 'a>(
+    names: &NameTable,
     lexemes: &'s [Lexeme<'a>],
 ) -> Option<(u32, &'s [Lexeme<'a>])>
-    requires few { length states.now ≤ 16384 }
+    requires few { length names.now ≤ 16384 }
     requires tokens { All HasWord lexemes.now }
-    ensures { MatchOption result (Lacks spelled_name (Contains states.now) lexemes.now) (λ found. Reads spelled_name (Contains states.now) (place_in states.now) lexemes.now found.0 found.1.now) }
+    ensures { MatchOption result (Lacks spelled_name (Contains names.now) lexemes.now) (λ found. Reads spelled_name (Contains names.now) (place_in names.now) lexemes.now found.0 found.1.now) }
 {
     let (name, rest) = first_word(lexemes)?;
-    let state = states.find(name)?;
-    Some((state as u32, rest))
+    let number = names.find(name)?;
+    Some((number as u32, rest))
 }
 
 /// The number of the symbol in front, and what follows it. `None` exactly where the tokens don't begin with a symbol.

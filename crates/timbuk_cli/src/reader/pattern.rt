@@ -10,7 +10,7 @@ ghost use Rattle.timbuk_cli.specs.Reads.{Reads, Lacks, ArePatterns, spelled_argu
 ghost use Rattle.timbuk_cli.specs.Reads as reads;
 
 use crate::reader::SpecError;
-use crate::reader::front::{after_mark, first_state, first_symbol};
+use crate::reader::front::{after_mark, first_name, first_symbol};
 use crate::reader::names::NameTable;
 use ranked_terms::{Pattern, Seq, Signature};
 use std::alloc::Global;
@@ -75,7 +75,7 @@ pub(crate) fn read_pattern<'s, 'a>(
     ensures ok { IfOk result (λ found. Reads (spelled_pattern signature.now variables.now) (IsAllowedPattern signature.now (length variables.now) depth) (λ p. p) lexemes.now found.0 found.1.now) }
     ensures unread { IsErrOf result SpecError.Unread → Lacks (spelled_pattern signature.now variables.now) (IsAllowedPattern signature.now (length variables.now) depth) lexemes.now }
 {
-    if let Some((variable, rest)) = first_state(variables, lexemes) {
+    if let Some((variable, rest)) = first_name(variables, lexemes) {
         return Ok((Pattern::Var(variable), rest));
     }
     let (sym, rest) = first_symbol(signature, lexemes).ok_or(SpecError::Unread)?;

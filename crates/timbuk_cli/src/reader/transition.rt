@@ -6,7 +6,7 @@ ghost use Rattle.timbuk_cli.specs.SpecText.{place_in, transition_of, IsAllowedTr
 ghost use Rattle.timbuk_cli.specs.Reads.{Reads, Lacks, AreArguments, spelled_after, spelled_next};
 
 use crate::reader::SpecError;
-use crate::reader::front::{after_mark, first_state, first_symbol};
+use crate::reader::front::{after_mark, first_name, first_symbol};
 use crate::reader::names::NameTable;
 use ranked_terms::{Seq, Signature};
 use std::alloc::Global;
@@ -25,7 +25,7 @@ fn state_after<'s, 'a>(
     ensures { MatchOption result (Lacks (spelled_after text.now) (Contains states.now) lexemes.now) (λ found. Reads (spelled_after text.now) (Contains states.now) (place_in states.now) lexemes.now found.0 found.1.now) }
 {
     let rest = after_mark(lexemes, text)?;
-    let (state, rest) = first_state(states, rest)?;
+    let (state, rest) = first_name(states, rest)?;
     Some((state, rest))
 }
 

@@ -1,5 +1,5 @@
 use Rattle.std.proofs.Common.{sym, subst, ◌∙◌}
-use Rattle.ranked_terms.specs.SignatureRules.{IsSignature, symbols_of}
+use Rattle.ranked_terms.specs.SignatureRules.{IsSignature}
 use Rattle.ranked_terms.proofs.SignatureLemmas.{symbols_of-clone}
 use Rattle.ranked_terms.proofs.signature.Signature.copy.Goals as goal
 

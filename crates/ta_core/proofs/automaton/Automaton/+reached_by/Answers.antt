@@ -1,6 +1,6 @@
 use Rattle.std.proofs.Common.{◌≡◌, ◌+◌, ◌++◌, ◌∷◌, [], take, sym, ap, ◌∙◌, subst, arith}
 use Rattle.std.proofs.lemmas.List.{take_more, take_all}
-use Rattle.ranked_terms.specs.declared.term.Config.{Config, App}
+use Rattle.ranked_terms.specs.declared.term.Config.{App}
 use Rattle.ta_core.specs.Reached.{EntersAndReaches}
 use Rattle.ta_core.specs.Runs.{Runs}
 use Rattle.ta_core.proofs.RunStates.{AreExact, exact_more, exact_by, runs_of_app}

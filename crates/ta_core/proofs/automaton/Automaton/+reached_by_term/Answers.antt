@@ -2,7 +2,7 @@ use Rattle.std.proofs.Common.{◌≡◌, ◌+◌, ◌++◌, ◌∷◌, [], take,
 use Rattle.std.proofs.lemmas.List.{take_more, take_all, map-append}
 use Rattle.ranked_terms.specs.Terms.{config_of}
 use Rattle.ranked_terms.specs.declared.term.Term.TheViews.{out-Term}
-use Rattle.ranked_terms.specs.declared.term.Config.{Config, App}
+use Rattle.ranked_terms.specs.declared.term.Config.{App}
 use Rattle.ta_core.specs.Reached.{EntersAndReaches}
 use Rattle.ta_core.specs.Runs.{Runs}
 use Rattle.ta_core.proofs.RunStates.{AreExact, exact_more, exact_by, runs_of_app, config_is}

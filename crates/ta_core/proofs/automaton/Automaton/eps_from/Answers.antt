@@ -1,12 +1,11 @@
-use Rattle.std.proofs.Common.{ℕ, ◌≡◌, ◌≤◌, ltb, leb, true, false, rules, subst, drop}
-use Rattle.std.specs.List.Sorted.{IsPartitionPoint}
+use Rattle.std.proofs.Common.{ℕ, ltb, leb, rules, drop}
 use Rattle.std.proofs.lemmas.List.{take_rest}
 use Rattle.std.proofs.lemmas.List.Sorted.{IsPartitionPoint-from_clause, IsPartitionedBy-ltb, IsPartitionedBy-leb, IsNonDecreasingBy-drop}
 use Rattle.ta_core.proofs.Lookups.{eps_ascend, part_of_key}
 use Rattle.ta_core.proofs.automaton.Automaton.eps_from.Goals as goal
 
 pub returns-clause-members : goal.returns-clause-members
-returns-clause-members c = 
+returns-clause-members c =
     let all = c.eps-all.result.now in
     let rising = eps_ascend all (rw c.eps-all.ensures.value c.eps-all.ensures.sorted) in
     let start = c.partition_point-start.result in

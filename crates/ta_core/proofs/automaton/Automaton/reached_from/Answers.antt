@@ -1,4 +1,4 @@
-use Rattle.std.proofs.Common.{◌≡◌, ◌∷◌, [], ◌==◌, true, sym, ap, ◌∙◌, subst, true≢false}
+use Rattle.std.proofs.Common.{◌≡◌, ◌∷◌, [], ◌==◌, sym, ap, ◌∙◌, subst, true≢false}
 use Rattle.std.specs.List.{Contains}
 use Rattle.indexmap.specs.IndexSet.{insert_key}
 use Rattle.ranked_terms.specs.declared.term.Config.{State}

@@ -1,10 +1,9 @@
-use Rattle.std.proofs.Common.{◌≡◌, ℕ, ◌+◌, ◌++◌, ◌∷◌, ◌↔◌, [], List, get_or, take, sym, ap, ◌∙◌, subst, arith}
-use Rattle.std.specs.List.{Contains, All, AllZip}
+use Rattle.std.proofs.Common.{◌≡◌, ℕ, ◌+◌, ◌++◌, ◌∷◌, ◌↔◌, [], take, sym, ap, ◌∙◌, subst}
+use Rattle.std.specs.List.{Contains, AllZip}
 use Rattle.std.proofs.lemmas.List.{take_more, take_all}
 use Rattle.std.proofs.lemmas.List.Elements.{Contains-get_or, All-contains}
 use Rattle.ta_core.specs.TreeAutomaton.{IsTransOf}
 use Rattle.ta_core.specs.Reached.{HasTransInto}
-use Rattle.ta_core.specs.declared.trans.Trans.{Trans}
 use Rattle.ta_core.proofs.ReachedSets.{all_insert}
 use Rattle.ta_core.proofs.RunStates.{trans_fits, trans_skipped, into_from_range}
 use Rattle.ta_core.proofs.automaton.Automaton.targets_of.Goals as goal

@@ -1,5 +1,4 @@
-use Rattle.std.proofs.Common.{◌≡◌, ◌≤◌, ltb, leb, true, false, rules, subst, drop}
-use Rattle.std.specs.List.Sorted.{IsPartitionPoint}
+use Rattle.std.proofs.Common.{ltb, leb, rules, drop}
 use Rattle.std.proofs.lemmas.List.{take_rest}
 use Rattle.std.proofs.lemmas.List.Sorted.{IsPartitionPoint-from_clause, IsPartitionedBy-ltb, IsPartitionedBy-leb, IsNonDecreasingBy-drop}
 use Rattle.ta_core.specs.declared.trans.Trans.{Trans}
@@ -7,7 +6,7 @@ use Rattle.ta_core.proofs.Lookups.{trans_ascend, part_of_key}
 use Rattle.ta_core.proofs.automaton.Automaton.trans_with.Goals as goal
 
 pub returns-clause-members : goal.returns-clause-members
-returns-clause-members c = 
+returns-clause-members c =
     let all = c.trans-all.result.now in
     let rising = trans_ascend all (rw c.trans-all.ensures.value c.trans-all.ensures.sorted) in
     let start = c.partition_point-start.result in

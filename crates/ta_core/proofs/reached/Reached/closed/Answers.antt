@@ -1,4 +1,4 @@
-use Rattle.std.proofs.Common.{◌≡◌, ◌<◌, ◌≤◌, length, slice_get, Some, sym, ◌∙◌, arith}
+use Rattle.std.proofs.Common.{◌<◌, sym, ◌∙◌, arith}
 use Rattle.std.proofs.lemmas.Option.{slice_get_within}
 use Rattle.ta_core.proofs.ReachedSets.{closing_starts, closing_more, closing_ends, few_states, past_end}
 use Rattle.ta_core.proofs.reached.Reached.closed.Goals as goal

@@ -1,4 +1,3 @@
-use Rattle.std.proofs.Common.{sym, ap}
 use Rattle.ta_core.proofs.ReachedSets.{is_member}
 use Rattle.ta_core.proofs.reached.Reached.contains.Goals as goal
 
