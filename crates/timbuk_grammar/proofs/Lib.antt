@@ -1,0 +1,4 @@
+pub mod Differ
+pub mod Choices
+pub mod Told
+pub mod Decided
