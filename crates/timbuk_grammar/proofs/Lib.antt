@@ -2,3 +2,5 @@ pub mod Differ
 pub mod Choices
 pub mod Told
 pub mod Decided
+pub mod Texts
+pub mod Computed
