@@ -10,23 +10,27 @@ use Rattle.timbuk_grammar.specs.Grammar.{Part, one, ◌then◌, ◌or◌, maybe,
 use Rattle.timbuk_grammar.specs.Derivations.{Opens, stay, token, both, first, second, skip, take, stop, again, head, Derives}
 use Rattle.timbuk_grammar.specs.Next.{empties, Choice, begins, choices}
 
--- one of these choices
-pub data Among (c : Choice) : List Choice → Type 0 where
-  here : {cs : List Choice} → Among c (c ∷ cs)
-  later : {d : Choice} {cs : List Choice} → Among c cs → Among c (d ∷ cs)
+-- one of these
+pub data Among {A : Type 0} (a : A) : List A → Type 0 where
+  here : {xs : List A} → Among a (a ∷ xs)
+  later : {b : A} {xs : List A} → Among a xs → Among a (b ∷ xs)
 
-pub among_left : {c : Choice} {xs : List Choice} (ys : List Choice) → Among c xs → Among c (xs ++ ys)
+pub among_left : {A : Type 0} {a : A} {xs : List A} (ys : List A) → Among a xs → Among a (xs ++ ys)
 among_left ys here = here
 among_left ys (later h) = later (among_left ys h)
 
-pub among_right : {c : Choice} (xs : List Choice) {ys : List Choice} → Among c ys → Among c (xs ++ ys)
+pub among_right : {A : Type 0} {a : A} (xs : List A) {ys : List A} → Among a ys → Among a (xs ++ ys)
 among_right [] h = h
 among_right (x ∷ xs) h = later (among_right xs h)
 
-pub among_either : {c : Choice} (xs : List Choice) {ys : List Choice} → Among c (xs ++ ys) → Among c xs ⊎ Among c ys
+pub among_either : {A : Type 0} {a : A} (xs : List A) {ys : List A} → Among a (xs ++ ys) → Among a xs ⊎ Among a ys
 among_either [] h = inr h
 among_either (x ∷ xs) here = inl here
 among_either (x ∷ xs) (later h) = elim (among_either xs h) [ inl a ↦ inl (later a) | inr b ↦ inr b ]
+
+pub among_if : {A : Type 0} {a : A} (b : Bool) (xs : List A) → Among a (cond b xs []) → (b ≡ true) × Among a xs
+among_if true xs h = (refl, h)
+among_if false xs h = elim h [ ]
 
 -- ---- derivations read off the choices
 
@@ -54,10 +58,6 @@ passes (a or b) ps e = elim (empty_or (empties a) (empties b) e) [ inl h ↦ fir
 passes (maybe a) ps e = skip stay
 passes (many a) ps e = stop stay
 passes (pattern p) ps e = cc
-
-pub among_if : {c : Choice} (b : Bool) (cs : List Choice) → Among c (cond b cs []) → (b ≡ true) × Among c cs
-among_if true cs h = (refl, h)
-among_if false cs h = elim h [ ]
 
 begins_opens : (p : Part) (ps : List Part) {c : Choice} → Among c (begins p ps) → Opens (p ∷ ps) [] (one c.terminal ∷ c.behind)
 begins_opens (one t) ps here = stay

@@ -107,17 +107,22 @@ choices_nexts (p ∷ ps) = two_terminals (begins p ps) (choices ps) (empties p) 
 
 -- ---- the token finds its choice
 
-apart_from : (t : Terminal) (cs : List Choice) {c : Choice} → list_all (are_apart t) (terminals cs) ≡ true → Among c cs → are_apart t c.terminal ≡ true
+among_terminals : (cs : List Choice) {c : Choice} → Among c cs → Among c.terminal (terminals cs)
+among_terminals (c ∷ cs) here = here
+among_terminals (d ∷ cs) (later h) = later (among_terminals cs h)
+among_terminals [] h = elim h [ ]
+
+pub apart_from : (t : Terminal) (ts : List Terminal) {u : Terminal} → list_all (are_apart t) ts ≡ true → Among u ts → are_apart t u ≡ true
 apart_from t [] e h = elim h [ ]
-apart_from t (c ∷ cs) e here = (and_parts _ _ e).0
-apart_from t (d ∷ cs) e (later h) = apart_from t cs (and_parts _ _ e).1 h
+apart_from t (u ∷ ts) e here = (and_parts _ _ e).0
+apart_from t (v ∷ ts) e (later h) = apart_from t ts (and_parts _ _ e).1 h
 
 found : (x : Lexeme) (cs : List Choice) {c : Choice} → all_apart (terminals cs) ≡ true → Among c cs → matches c.terminal x ≡ true → find (λ d. matches d.terminal x) cs ≡ Some c
 found x [] e h m = elim h [ ]
 found x (c ∷ cs) e here m = rw m refl
 found x (d ∷ cs) {c = c} e (later h) m =
     let k = and_parts _ _ e in
-    let no : matches d.terminal x ≡ false = other_way _ _ (apart d.terminal c.terminal x (apart_from d.terminal cs k.0 h)) m in
+    let no : matches d.terminal x ≡ false = other_way _ _ (apart d.terminal c.terminal x (apart_from d.terminal (terminals cs) k.0 (among_terminals cs h))) m in
     rw no (found x cs k.1 h m)
 
 -- where one token decides, the choice that a token fits is the one that is found

@@ -4,3 +4,5 @@ pub mod Told
 pub mod Decided
 pub mod Texts
 pub mod Computed
+pub mod Derived
+pub mod Alike

@@ -44,11 +44,11 @@ widen xs ys zs a b f g h = elim (among_either xs h) [
     inl k ↦ among_left (cond b zs []) (f k)
   | inr k ↦ let e = among_if a zs k in among_right ys (among_when b (g e.0) e.1) ]
 
-or_first : (a b : Bool) → a ≡ true → (a || b) ≡ true
+pub or_first : (a b : Bool) → a ≡ true → (a || b) ≡ true
 or_first true b e = refl
 or_first false b e = cc
 
-or_second : (a b : Bool) → b ≡ true → (a || b) ≡ true
+pub or_second : (a b : Bool) → b ≡ true → (a || b) ≡ true
 or_second true b e = refl
 or_second false b e = e
 

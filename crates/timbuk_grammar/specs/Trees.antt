@@ -37,12 +37,13 @@ abbrev mutual
   -- the tokens of a pattern
   pub pattern_spelling : (p : Place) → Tree p → List Lexeme
   pattern_spelling p (leaf n) = n.lexeme ∷ []
-  pattern_spelling p (node n opening first more closing) = n.lexeme ∷ opening.lexeme ∷ pattern_spelling p first ++ more_spelling p more ++ closing.lexeme ∷ []
+  pattern_spelling p (node n opening argument more closing) =
+      n.lexeme ∷ opening.lexeme ∷ (pattern_spelling p argument ++ (more_spelling p more ++ closing.lexeme ∷ []))
 
   -- the tokens of the arguments after the first
   pub more_spelling : (p : Place) → Trees p → List Lexeme
   more_spelling p none = []
-  more_spelling p (comma c next more) = c.lexeme ∷ pattern_spelling p next ++ more_spelling p more
+  more_spelling p (comma mark next more) = mark.lexeme ∷ (pattern_spelling p next ++ more_spelling p more)
 
 -- the tokens that a derivation is of
 abbrev pub spelling : (p : Part) → Value p → List Lexeme
