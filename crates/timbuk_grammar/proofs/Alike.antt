@@ -1,7 +1,7 @@
 -- No two trees of a part that one token decides spell the same.
-use Rattle.std.proofs.Common.{◌≡◌, inl, inr, Bool, true, false, not, ◌&&◌, cond, List, [], ◌∷◌, ◌++◌, refl, ap, sym, ◌∙◌, subst, append_assoc}
+use Rattle.std.proofs.Common.{◌≡◌, inl, inr, Bool, true, false, not, cond, List, [], ◌∷◌, ◌++◌, refl, ap, sym, ◌∙◌, subst, append_assoc}
 use Rattle.std.proofs.Math.Bool.{Bool-set}
-use Rattle.std.specs.Prelude.{Option, Some, None, flat_map}
+use Rattle.std.specs.Prelude.{Some, None, flat_map}
 use Rattle.std.proofs.lemmas.Bool.{and_parts, and_from, both_ways}
 use Rattle.std.proofs.lemmas.List.{append-nil}
 use Rattle.timbuk_lex.specs.declared.lexeme.Lexeme.{Lexeme}
@@ -14,7 +14,7 @@ use Rattle.timbuk_grammar.specs.Next.{empties}
 use Rattle.timbuk_grammar.specs.Trees.{Token, Tree, leaf, node, Trees, none, comma, Value, pattern_spelling, more_spelling, spelling}
 use Rattle.timbuk_grammar.proofs.Choices.{Among, here, later, among_left, among_right}
 use Rattle.timbuk_grammar.proofs.Told.{or_first, or_second}
-use Rattle.timbuk_grammar.proofs.Differ.{apart, are_apart, not_true}
+use Rattle.timbuk_grammar.proofs.Differ.{apart, not_true}
 use Rattle.timbuk_grammar.proofs.Decided.{all_apart, apart_from, firsts, ahead, decides, file_decides}
 
 -- ---- what the tokens of a part begin with
@@ -23,7 +23,7 @@ use Rattle.timbuk_grammar.proofs.Decided.{all_apart, apart_from, firsts, ahead, 
 record Meets (x : Lexeme) (ts : List Terminal) : Type 0 where
   pub terminal : Terminal
   pub among : Among terminal ts
-  pub fits : matches terminal x ≡ true
+  pub matched : matches terminal x ≡ true
 
 -- there is no token, or the first is one of these terminals
 data Follows (ts : List Terminal) : List Lexeme → Type 0 where
@@ -40,10 +40,10 @@ data Front (p : Part) : List Lexeme → Type 0 where
   begun : {x : Lexeme} {xs : List Lexeme} → Meets x (firsts p) → Front p (x ∷ xs)
 
 left_meets : {x : Lexeme} {ts : List Terminal} (us : List Terminal) → Meets x ts → Meets x (ts ++ us)
-left_meets us m = record { terminal = m.terminal; among = among_left us m.among; fits = m.fits }
+left_meets us m = record { terminal = m.terminal; among = among_left us m.among; matched = m.matched }
 
 right_meets : {x : Lexeme} (ts : List Terminal) {us : List Terminal} → Meets x us → Meets x (ts ++ us)
-right_meets ts m = record { terminal = m.terminal; among = among_right ts m.among; fits = m.fits }
+right_meets ts m = record { terminal = m.terminal; among = among_right ts m.among; matched = m.matched }
 
 meets_when : {x : Lexeme} (b : Bool) {ts : List Terminal} → b ≡ true → Meets x ts → Meets x (cond b ts [])
 meets_when true e m = m
@@ -59,7 +59,7 @@ apart_ends : (ts us : List Terminal) {xs ys : List Lexeme} → all_apart (ts ++ 
 apart_ends ts us e (start m) end is = cc
 apart_ends ts us e (start {x = x} m) (next {x = y} n) is =
     let k : x ≡ y = cc in
-    meets_apart ts us y e m.among n.among (subst (λ z. matches m.terminal z ≡ true) k m.fits) n.fits
+    meets_apart ts us y e m.among n.among (subst (λ z. matches m.terminal z ≡ true) k m.matched) n.matched
 
 then_front : (a b : Part) {xs ys : List Lexeme} → Front a xs → Front b ys → Front (a then b) (xs ++ ys)
 then_front a b (empty e) (empty f) = empty (and_from _ _ e f)
@@ -87,7 +87,7 @@ many_front a [] h = empty refl
 many_front a (v ∷ vs) h = again_front a (h v) (many_front a vs h)
 
 is_token : {t : Terminal} (v : Token t) (ts : List Terminal) → Meets v.lexeme (t ∷ ts)
-is_token {t = t} v ts = record { terminal = t; among = here; fits = v.fits }
+is_token {t = t} v ts = record { terminal = t; among = here; matched = v.matched }
 
 pattern_front : (p : Place) (v : Tree p) → Front (pattern p) (pattern_spelling p v)
 pattern_front p (leaf n) = begun (is_token n [])
@@ -124,7 +124,7 @@ Alike v w ys zs = (v ≡ w) × (ys ≡ zs)
 
 token_path : {t : Terminal} (v w : Token t) → v.lexeme ≡ w.lexeme → v ≡ w
 token_path {t = t} v w e =
-    subst (λ z. (n : matches t z ≡ true) → v ≡ record { lexeme = z; fits = n }) e (λ n. ap (λ q. record { lexeme = v.lexeme; fits = q }) (Bool-set _ _ v.fits n)) w.fits
+    subst (λ z. (n : matches t z ≡ true) → v ≡ record { lexeme = z; matched = n }) e (λ n. ap (λ q. record { lexeme = v.lexeme; matched = q }) (Bool-set _ _ v.matched n)) w.matched
 
 pair_path : {A B : Type 0} (v w : A × B) → v.0 ≡ w.0 → v.1 ≡ w.1 → v ≡ w
 pair_path v w e f = ap (λ z. (z, v.1)) e ∙ ap (λ z. (w.0, z)) f
@@ -142,7 +142,7 @@ many_alike a ts (v ∷ vs) [] ys zs n d h f g e =
     absurd (apart_ends (firsts a) ts d (starts a _ n (front a v)) g (sym (append_assoc (spelling a v) (flat_map (spelling a) vs) ys) ∙ e))
 many_alike a ts (v ∷ vs) (w ∷ ws) ys zs n d h f g e =
     let first = h v w _ _ (ahead_follows (many a) ts (many_front a vs (front a)) f) (ahead_follows (many a) ts (many_front a ws (front a)) g)
-        (regroup (spelling a v) (flat_map (spelling a) vs) ys (spelling a w) (flat_map (spelling a) ws) zs e) in
+    (regroup (spelling a v) (flat_map (spelling a) vs) ys (spelling a w) (flat_map (spelling a) ws) zs e) in
     let rest = many_alike a ts vs ws ys zs n d h f g first.1 in
     (ap (λ z. z ∷ vs) first.0 ∙ ap (λ z. w ∷ z) rest.0, rest.1)
 
@@ -157,7 +157,7 @@ more_follows p (comma mark argument more) closing ys = next (is_token mark (term
 -- no mark is a comma and a closing parenthesis
 comma_or_close : {P : Type 0} (mark : Token terminal.Comma) (closing : Token terminal.CloseParen) → mark.lexeme ≡ closing.lexeme → P
 comma_or_close mark closing e =
-    absurd (both_ways _ (apart terminal.Comma terminal.CloseParen closing.lexeme refl (subst (λ z. matches terminal.Comma z ≡ true) e mark.fits)) closing.fits)
+    absurd (both_ways _ (apart terminal.Comma terminal.CloseParen closing.lexeme refl (subst (λ z. matches terminal.Comma z ≡ true) e mark.matched)) closing.matched)
 
 -- the last argument, its closing parenthesis and what follows
 inside : (xs ys zs : List Lexeme) (x : Lexeme) → (xs ++ (ys ++ x ∷ [])) ++ zs ≡ xs ++ (ys ++ x ∷ zs)
@@ -185,7 +185,7 @@ mutual
   tree_alike p (node n o a more c) (node n' o' a' more' c') ts ys zs d f g e =
       let tail : (pattern_spelling p a ++ (more_spelling p more ++ c.lexeme ∷ [])) ++ ys ≡ (pattern_spelling p a' ++ (more_spelling p more' ++ c'.lexeme ∷ [])) ++ zs = cc in
       let first = tree_alike p a a' after_argument (more_spelling p more ++ c.lexeme ∷ ys) (more_spelling p more' ++ c'.lexeme ∷ zs) refl (more_follows p more c ys) (more_follows p more' c' zs)
-        (sym (inside (pattern_spelling p a) (more_spelling p more) ys c.lexeme) ∙ tail ∙ inside (pattern_spelling p a') (more_spelling p more') zs c'.lexeme) in
+      (sym (inside (pattern_spelling p a) (more_spelling p more) ys c.lexeme) ∙ tail ∙ inside (pattern_spelling p a') (more_spelling p more') zs c'.lexeme) in
       let rest = more_alike p more more' c c' ys zs first.1 in
       let k : n ≡ n' = token_path n n' (cc) in
       let l : o ≡ o' = token_path o o' (cc) in
@@ -199,7 +199,7 @@ mutual
   more_alike p (comma m a more) (comma m' a' more') c k ys zs e =
       let tail : (pattern_spelling p a ++ more_spelling p more) ++ c.lexeme ∷ ys ≡ (pattern_spelling p a' ++ more_spelling p more') ++ k.lexeme ∷ zs = cc in
       let first = tree_alike p a a' after_argument (more_spelling p more ++ c.lexeme ∷ ys) (more_spelling p more' ++ k.lexeme ∷ zs) refl (more_follows p more c ys) (more_follows p more' k zs)
-        (regroup (pattern_spelling p a) (more_spelling p more) (c.lexeme ∷ ys) (pattern_spelling p a') (more_spelling p more') (k.lexeme ∷ zs) tail) in
+      (regroup (pattern_spelling p a) (more_spelling p more) (c.lexeme ∷ ys) (pattern_spelling p a') (more_spelling p more') (k.lexeme ∷ zs) tail) in
       let rest = more_alike p more more' c k ys zs first.1 in
       let l : m ≡ m' = token_path m m' (cc) in
       record { arguments = cc (l, first.0, rest.arguments); closing = rest.closing; behind = rest.behind }
@@ -210,7 +210,7 @@ alike (one t) ts v w ys zs d f g e = (token_path v w (cc), cc)
 alike (a then b) ts v w ys zs d f g e =
     let k = and_parts _ _ d in
     let h = alike a (ahead b ts) v.0 w.0 _ _ k.0 (ahead_follows b ts (front b v.1) f) (ahead_follows b ts (front b w.1) g)
-        (regroup (spelling a v.0) (spelling b v.1) ys (spelling a w.0) (spelling b w.1) zs e) in
+    (regroup (spelling a v.0) (spelling b v.1) ys (spelling a w.0) (spelling b w.1) zs e) in
     let l = alike b ts v.1 w.1 ys zs k.1 f g h.1 in
     (pair_path v w h.0 l.0, l.1)
 alike (a or b) ts (inl v) (inl w) ys zs d f g e = let h = alike a ts v w ys zs (and_parts _ _ d).0 f g e in (ap inl h.0, h.1)

@@ -1,14 +1,10 @@
 -- The computed choices are what derivations do next.
-use Rattle.std.proofs.Common.{◌≡◌, ◌⊎◌, inl, inr, Bool, true, false, ◌&&◌, ◌||◌, cond, List, [], ◌∷◌, ◌++◌, refl, ap, sym, ◌∙◌, subst, append_assoc}
-use Rattle.std.specs.List.{list_all}
+use Rattle.std.proofs.Common.{◌≡◌, ◌⊎◌, inl, inr, Bool, true, false, ◌||◌, cond, List, [], ◌∷◌, ◌++◌, refl}
 use Rattle.std.proofs.lemmas.Bool.{and_parts}
 use Rattle.timbuk_lex.specs.declared.lexeme.Lexeme.{Lexeme}
-use Rattle.timbuk_grammar.specs.Matching.{matches}
-use Rattle.timbuk_grammar.specs.declared.terminal.Terminal.{Terminal}
-use Rattle.timbuk_grammar.specs.declared.terminal.Place.{Place}
-use Rattle.timbuk_grammar.specs.Grammar.{Part, one, ◌then◌, ◌or◌, maybe, many, pattern, name, pattern_arguments}
+use Rattle.timbuk_grammar.specs.Grammar.{Part, one, ◌then◌, ◌or◌, maybe, many, pattern}
 use Rattle.timbuk_grammar.specs.Derivations.{Opens, stay, token, both, first, second, skip, take, stop, again, head, Derives}
-use Rattle.timbuk_grammar.specs.Next.{empties, Choice, begins, choices}
+use Rattle.timbuk_grammar.specs.Next.{empties, may_end, Choice, begins, choices}
 
 -- one of these
 pub data Among {A : Type 0} (a : A) : List A → Type 0 where
@@ -63,8 +59,9 @@ begins_opens : (p : Part) (ps : List Part) {c : Choice} → Among c (begins p ps
 begins_opens (one t) ps here = stay
 begins_opens (one t) ps (later h) = elim h [ ]
 begins_opens (a then b) ps h = elim (among_either (begins a (b ∷ ps)) h) [
-    inl k ↦ both (begins_opens a (b ∷ ps) k)
-  | inr k ↦ let e = among_if (empties a) (begins b ps) k in both (through (passes a (b ∷ ps) e.0) (begins_opens b ps e.1)) ]
+  | inl k ↦ both (begins_opens a (b ∷ ps) k)
+  | inr k ↦ let e = among_if (empties a) (begins b ps) k in both (through (passes a (b ∷ ps) e.0) (begins_opens b ps e.1))
+]
 begins_opens (a or b) ps h = elim (among_either (begins a ps) h) [ inl k ↦ first (begins_opens a ps k) | inr k ↦ second (begins_opens b ps k) ]
 begins_opens (maybe a) ps h = take (begins_opens a ps h)
 begins_opens (many a) ps h = again (begins_opens a (many a ∷ ps) h)
@@ -75,10 +72,11 @@ begins_opens (pattern p) ps (later h) = elim h [ ]
 pub choice_opens : (ps : List Part) {c : Choice} → Among c (choices ps) → Opens ps [] (one c.terminal ∷ c.behind)
 choice_opens [] h = elim h [ ]
 choice_opens (p ∷ ps) h = elim (among_either (begins p ps) h) [
-    inl k ↦ begins_opens p ps k
-  | inr k ↦ let e = among_if (empties p) (choices ps) k in through (passes p ps e.0) (choice_opens ps e.1) ]
+  | inl k ↦ begins_opens p ps k
+  | inr k ↦ let e = among_if (empties p) (choices ps) k in through (passes p ps e.0) (choice_opens ps e.1)
+]
 
 -- parts that are all empty derive no token
-pub all_pass : (ps : List Part) → list_all empties ps ≡ true → Derives ps []
+pub all_pass : (ps : List Part) → may_end ps ≡ true → Derives ps []
 all_pass [] e = stay
-all_pass (p ∷ ps) e = let h = and_parts (empties p) (list_all empties ps) e in through (passes p ps h.0) (all_pass ps h.1)
+all_pass (p ∷ ps) e = let h = and_parts (empties p) (may_end ps) e in through (passes p ps h.0) (all_pass ps h.1)

@@ -1,6 +1,6 @@
 -- One token decides: the computed choices of the grammar are apart, whatever was read.
-use Rattle.std.proofs.Common.{◌≡◌, ◌⊎◌, inl, inr, Bool, true, false, ◌&&◌, ◌||◌, not, cond, List, [], ◌∷◌, ◌++◌, map, refl, ap, sym, ◌∙◌, subst, append_assoc}
-use Rattle.std.specs.Prelude.{find, option_map, option_and_then, Option, Some, None}
+use Rattle.std.proofs.Common.{◌≡◌, inl, inr, Bool, true, false, ◌&&◌, ◌||◌, not, cond, List, [], ◌∷◌, ◌++◌, map, refl, ap, ◌∙◌, subst}
+use Rattle.std.specs.Prelude.{find, Some}
 use Rattle.std.specs.List.{list_all}
 use Rattle.std.proofs.lemmas.Bool.{and_parts, and_from}
 use Rattle.std.proofs.lemmas.List.{append-nil, map-append}
@@ -9,8 +9,7 @@ use Rattle.timbuk_grammar.specs.Vocabulary.{is_reserved, is_closed}
 use Rattle.timbuk_grammar.specs.Matching.{matches}
 use Rattle.timbuk_grammar.specs.declared.terminal.Terminal.{Terminal}
 use Rattle.timbuk_grammar.specs.declared.terminal.Terminal.TheVariants as terminal
-use Rattle.timbuk_grammar.specs.declared.terminal.Place.{Place}
-use Rattle.timbuk_grammar.specs.Grammar.{Part, one, ◌then◌, ◌or◌, maybe, many, pattern, name, pattern_arguments, file}
+use Rattle.timbuk_grammar.specs.Grammar.{Part, one, ◌then◌, ◌or◌, maybe, many, pattern, file}
 use Rattle.timbuk_grammar.specs.Next.{empties, Choice, begins, choices, choice_of}
 use Rattle.timbuk_grammar.proofs.Differ.{are_apart, apart, other_way, not_true}
 use Rattle.timbuk_grammar.proofs.Choices.{Among, here, later, among_either, among_if}
@@ -131,12 +130,12 @@ finds x ps d = found x (choices ps) (ap all_apart (choices_nexts ps) ∙ nexts_a
 
 pub record Fits (x : Lexeme) (cs : List Choice) (c : Choice) : Type 0 where
   pub among : Among c cs
-  pub fits : matches c.terminal x ≡ true
+  pub matched : matches c.terminal x ≡ true
 
 found_by : (x : Lexeme) (d : Choice) (cs : List Choice) (c : Choice) (m : Bool) → matches d.terminal x ≡ m → (find (λ e. matches e.terminal x) cs ≡ Some c → Fits x cs c)
     → cond m (Some d) (find (λ e. matches e.terminal x) cs) ≡ Some c → Fits x (d ∷ cs) c
-found_by x d cs c true m more e = let k : d ≡ c = cc in subst (Fits x (d ∷ cs)) k (record { among = here; fits = m })
-found_by x d cs c false m more e = let h = more e in record { among = later h.among; fits = h.fits }
+found_by x d cs c true m more e = let k : d ≡ c = cc in subst (Fits x (d ∷ cs)) k (record { among = here; matched = m })
+found_by x d cs c false m more e = let h = more e in record { among = later h.among; matched = h.matched }
 
 -- what is found fits
 pub found_fits : (x : Lexeme) (cs : List Choice) (c : Choice) → find (λ d. matches d.terminal x) cs ≡ Some c → Fits x cs c
@@ -151,8 +150,9 @@ begins_decide (one t) ps (later k) d h = elim k [ ]
 begins_decide (a then b) ps k d h =
     let e = and_parts _ _ d in
     elim (among_either (begins a (b ∷ ps)) k) [
-      inl l ↦ begins_decide a (b ∷ ps) l e.0 (and_from _ _ e.1 h)
-    | inr l ↦ begins_decide b ps (among_if (empties a) (begins b ps) l).1 e.1 h ]
+      | inl l ↦ begins_decide a (b ∷ ps) l e.0 (and_from _ _ e.1 h)
+      | inr l ↦ begins_decide b ps (among_if (empties a) (begins b ps) l).1 e.1 h
+    ]
 begins_decide (a or b) ps k d h =
     let e = and_parts _ _ d in
     elim (among_either (begins a ps) k) [ inl l ↦ begins_decide a ps l e.0 h | inr l ↦ begins_decide b ps l (and_parts _ _ e.1).0 h ]

@@ -1,11 +1,11 @@
 -- What is derived is what a tree spells.
 use Rattle.std.proofs.Common.{◌≡◌, inl, inr, List, [], ◌∷◌, ◌++◌, refl, ap, sym, ◌∙◌, subst, append_assoc}
-use Rattle.std.specs.Prelude.{Option, Some, None, flat_map}
+use Rattle.std.specs.Prelude.{Some, None, flat_map}
 use Rattle.std.proofs.lemmas.List.{append-nil}
 use Rattle.timbuk_lex.specs.declared.lexeme.Lexeme.{Lexeme}
 use Rattle.timbuk_grammar.specs.declared.terminal.Terminal.TheVariants as terminal
 use Rattle.timbuk_grammar.specs.declared.terminal.Place.{Place}
-use Rattle.timbuk_grammar.specs.Grammar.{Part, one, ◌then◌, ◌or◌, maybe, many, pattern, name, pattern_arguments, file}
+use Rattle.timbuk_grammar.specs.Grammar.{Part, one, ◌then◌, ◌or◌, maybe, many, pattern, pattern_arguments, file}
 use Rattle.timbuk_grammar.specs.Derivations.{Opens, stay, token, both, first, second, skip, take, stop, again, head, Derives, NextEnd}
 use Rattle.timbuk_grammar.specs.Trees.{Token, Tree, leaf, node, Trees, none, comma, Value, pattern_spelling, more_spelling, spelling, IsFile}
 use Rattle.timbuk_grammar.proofs.Choices.{through}
@@ -18,21 +18,21 @@ next_argument p = one terminal.Comma then pattern p
 
 mutual
   pattern_opens : (p : Place) → (v : Tree p) → (ps : List Part) → Opens (pattern p ∷ ps) (pattern_spelling p v) ps
-  pattern_opens p (leaf n) ps = head (token n.fits (skip stay))
+  pattern_opens p (leaf n) ps = head (token n.matched (skip stay))
   pattern_opens p (node n opening argument more closing) ps =
-      head (token n.fits (take (both (token opening.fits (both
-        (through (pattern_opens p argument _) (both (through (more_opens p more _) (token closing.fits stay)))))))))
+      head (token n.matched (take (both (token opening.matched (both
+      (through (pattern_opens p argument _) (both (through (more_opens p more _) (token closing.matched stay)))))))))
 
   more_opens : (p : Place) → (vs : Trees p) → (ps : List Part) → Opens (many (next_argument p) ∷ ps) (more_spelling p vs) ps
   more_opens p none ps = stop stay
-  more_opens p (comma mark next more) ps = again (both (token mark.fits (through (pattern_opens p next _) (more_opens p more ps))))
+  more_opens p (comma mark next more) ps = again (both (token mark.matched (through (pattern_opens p next _) (more_opens p more ps))))
 
 many_opens : (a : Part) (vs : List (Value a)) (ps : List Part) → ((v : Value a) (qs : List Part) → Opens (a ∷ qs) (spelling a v) qs) → Opens (many a ∷ ps) (flat_map (spelling a) vs) ps
 many_opens a [] ps h = stop stay
 many_opens a (v ∷ vs) ps h = again (through (h v (many a ∷ ps)) (many_opens a vs ps h))
 
 pub tree_opens : (p : Part) (v : Value p) (ps : List Part) → Opens (p ∷ ps) (spelling p v) ps
-tree_opens (one t) v ps = token v.fits stay
+tree_opens (one t) v ps = token v.matched stay
 tree_opens (a then b) v ps = both (through (tree_opens a v.0 (b ∷ ps)) (tree_opens b v.1 ps))
 tree_opens (a or b) (inl v) ps = first (tree_opens a v ps)
 tree_opens (a or b) (inr v) ps = second (tree_opens b v ps)
@@ -77,7 +77,7 @@ tree_spelled p n (Some v) = ap (λ z. n.lexeme ∷ v.0.lexeme ∷ (pattern_spell
 
 pub spelled : {ps : List Part} {xs : List Lexeme} → Derives ps xs → Spelled ps xs
 spelled stay = (tt, refl)
-spelled (token {x = x} e d) = let h = spelled d in ((record { lexeme = x; fits = e }, h.0), ap (λ z. x ∷ z) h.1)
+spelled (token {x = x} e d) = let h = spelled d in ((record { lexeme = x; matched = e }, h.0), ap (λ z. x ∷ z) h.1)
 spelled (both {a = a} {b = b} {ps = ps} d) =
     let h = spelled d in
     (((h.0.0, h.0.1.0), h.0.1.1), append_assoc (spelling a h.0.0) (spelling b h.0.1.0) (spellings ps h.0.1.1) ∙ h.1)

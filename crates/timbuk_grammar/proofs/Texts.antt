@@ -8,7 +8,7 @@ use Rattle.timbuk_grammar.specs.Vocabulary.{is_reserved, is_closed}
 use Rattle.timbuk_grammar.specs.Matching.{matches}
 use Rattle.timbuk_grammar.specs.declared.terminal.Terminal.{Terminal}
 use Rattle.timbuk_grammar.specs.declared.terminal.Terminal.TheVariants as terminal
-use Rattle.timbuk_grammar.specs.Grammar.{Part, one, ◌then◌, ◌or◌, maybe, many, pattern, name, pattern_arguments}
+use Rattle.timbuk_grammar.specs.Grammar.{Part, one, ◌then◌, ◌or◌, maybe, many, pattern}
 use Rattle.timbuk_grammar.specs.Derivations.{stay, token, both, first, skip, stop, head, Derives}
 
 written : TokenKind → List ℕ → Lexeme

@@ -1,4 +1,4 @@
--- Derivations of the grammar from left to right, one token at a time (this project's own format).
+-- Derivations of the grammar, from left to right (this project's own format).
 use Rattle.std.specs.Prelude.{◌≡◌, true, List, [], ◌∷◌, ◌++◌}
 use Rattle.timbuk_lex.specs.declared.lexeme.Lexeme.{Lexeme}
 use Rattle.timbuk_grammar.specs.declared.terminal.Place.{Place}
@@ -6,8 +6,7 @@ use Rattle.timbuk_grammar.specs.declared.terminal.Terminal.{Terminal}
 use Rattle.timbuk_grammar.specs.Matching.{matches}
 use Rattle.timbuk_grammar.specs.Grammar.{Part, one, ◌then◌, ◌or◌, maybe, many, pattern, name, pattern_arguments, file}
 
--- Parts that stand one after the other, tokens that they derive, and the parts that are open then, in their place. A part is
--- taken apart as its form says, and a part that is one token takes it.
+-- The first parts, one after the other, derive these tokens and leave the last parts open. The first of them is taken apart by its form.
 pub data Opens : List Part → List Lexeme → List Part → Type 0 where
   stay : {ps : List Part} → Opens ps [] ps
   token : {t : Terminal} {x : Lexeme} {ps qs : List Part} {xs : List Lexeme} → matches t x ≡ true → Opens ps xs qs → Opens (one t ∷ ps) (x ∷ xs) qs
@@ -24,18 +23,18 @@ pub data Opens : List Part → List Lexeme → List Part → Type 0 where
 abbrev pub Derives : List Part → List Lexeme → Type 0
 Derives ps xs = Opens ps xs []
 
--- the token stands after these in some derivation
+-- the token stands after these in some derivation of a file
 abbrev pub Next : List Lexeme → Lexeme → Type 0
 Next before x = (rest : List Lexeme) × Derives (file ∷ []) (before ++ x ∷ rest)
 
--- the end stands after these tokens
+-- the end stands after these tokens: they are a file
 abbrev pub NextEnd : List Lexeme → Type 0
 NextEnd before = Derives (file ∷ []) before
 
--- After these tokens the token stands at this terminal in some derivation.
+-- the token stands after these at this terminal in some derivation of a file
 pub record Stands (before : List Lexeme) (x : Lexeme) (t : Terminal) : Type 0 where
   pub behind : List Part
   pub here : Opens (file ∷ []) before (one t ∷ behind)
-  pub fits : matches t x ≡ true
+  pub matched : matches t x ≡ true
   pub rest : List Lexeme
   pub whole : Derives behind rest

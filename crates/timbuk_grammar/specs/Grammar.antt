@@ -6,9 +6,7 @@ use Rattle.timbuk_grammar.specs.declared.terminal.Terminal.TheVariants as termin
 
 infixr 80 ◌then◌
 infixr 70 ◌or◌
-
--- A part of the grammar: one token; one part and then another; one part or another; a part at most once; a part any number of
--- times; or a pattern, the only part that stands in itself.
+-- A part: a token; a part and then another; one of two; a part at most once, or any number of times; a pattern, which may hold itself.
 pub data Part : Type 0 where
   one : Terminal → Part
   ◌then◌ : Part → Part → Part
@@ -21,13 +19,17 @@ pub data Part : Type 0 where
 abbrev pub some : Part → Part
 some a = a then many a
 
--- a name, in this place
+-- a name in this place
 abbrev pub name : Place → Part
 name p = one (terminal.Named p)
 
--- arguments, of which there is at least one: [ "(" a ( "," a )* ")" ]
+-- arguments, at least one, or nothing: [ "(" a ( "," a )* ")" ]
 abbrev pub arguments : Part → Part
 arguments a = maybe (one terminal.OpenParen then a then many (one terminal.Comma then a) then one terminal.CloseParen)
+
+-- what follows the name of a pattern: pattern = name [ "(" pattern ( "," pattern )* ")" ]
+abbrev pub pattern_arguments : Place → Part
+pattern_arguments p = arguments (pattern p)
 
 -- op = name ":" number
 abbrev pub op : Part
@@ -53,53 +55,56 @@ transition = name place.TransitionHead then arguments (name place.TransitionArgu
 abbrev pub entry : Part
 entry = name place.EntryHead then arguments (name place.EntryArgument) then one terminal.Arrow then name place.EntryTarget
 
--- approximation rule = "[" pattern "->" name "]" "->" "[" entry+ "]"
+-- approximation_rule = "[" pattern "->" name "]" "->" "[" entry+ "]"
 abbrev pub approximation_rule : Part
 approximation_rule =
     one terminal.OpenBracket then pattern place.EntryWhole then one terminal.Arrow then name place.EntryAt then one terminal.CloseBracket
     then one terminal.Arrow then one terminal.OpenBracket then some entry then one terminal.CloseBracket
 
--- "Ops" op*
+-- ops = "Ops" op*
 abbrev pub ops : Part
 ops = one terminal.Ops then many op
 
--- "Vars" name*
+-- vars = "Vars" name*
 abbrev pub vars : Part
 vars = one terminal.Vars then many (name place.Variable)
 
--- "TRS" name rule*
+-- system = "TRS" name rule*
 abbrev pub system : Part
 system = one terminal.Trs then name place.Title then many rule
 
--- "Description" ( name ":" text )*
+-- description = "Description" ( name ":" text )*
 abbrev pub description : Part
 description = one terminal.Description then many (name place.DescribedState then one terminal.Colon then one terminal.Quoted)
 
--- "Automaton" name "States" state* [ description ] "Final" "States" name* [ "Prior" transition* ] "Transitions" transition*
+-- final_states = "Final" "States" name*
+abbrev pub final_states : Part
+final_states = one terminal.Final then one terminal.States then many (name place.FinalState)
+
+-- transitions = [ "Prior" transition* ] "Transitions" transition*
+abbrev pub transitions : Part
+transitions = maybe (one terminal.Prior then many transition) then one terminal.Transitions then many transition
+
+-- automaton = "Automaton" name "States" state* [ description ] final_states transitions
 abbrev pub automaton : Part
 automaton =
-    one terminal.Automaton then name place.Title then one terminal.States then many (state place.State) then maybe description
-    then one terminal.Final then one terminal.States then many (name place.FinalState)
-    then maybe (one terminal.Prior then many transition) then one terminal.Transitions then many transition
+    one terminal.Automaton then name place.Title then one terminal.States then many (state place.State)
+    then maybe description then final_states then transitions
 
--- "Equations" name "Rules" equation*
+-- equations = "Equations" name "Rules" equation*
 abbrev pub equations : Part
 equations = one terminal.Equations then name place.Title then one terminal.Rules then many equation
 
--- "Approximation" name "States" state* "Rules" approximation_rule*
+-- approximation = "Approximation" name "States" state* "Rules" approximation_rule*
 abbrev pub approximation : Part
 approximation =
     one terminal.Approximation then name place.Title then one terminal.States then many (state place.ApproximationState)
     then one terminal.Rules then many approximation_rule
 
--- a section after `Vars`, of which a file has any number in any order
+-- section = system | automaton | equations | approximation
 abbrev pub section : Part
 section = system or automaton or equations or approximation
 
 -- file = [ ops ] [ vars ] section*
 abbrev pub file : Part
 file = maybe ops then maybe vars then many section
-
--- what follows the name of a pattern: pattern = name [ "(" pattern ( "," pattern )* ")" ]
-abbrev pub pattern_arguments : Place → Part
-pattern_arguments p = arguments (pattern p)

@@ -7,13 +7,13 @@ use Rattle.timbuk_grammar.specs.Derivations.{Next, NextEnd, Stands}
 use Rattle.timbuk_grammar.specs.Next.{next_allowed, end_allowed, terminal_at}
 use Rattle.timbuk_grammar.specs.Trees.{Value, spelling, IsFile}
 
--- What may come after these tokens is what is computed, and a token that may come stands at just one terminal.
+-- What stands after these tokens in derivations is what is computed: the tokens, the one terminal of each, and the end.
 pub record NextLaw (before : List Lexeme) : Type 0 where
   pub token : (x : Lexeme) → Next before x ↔ IsTrue (next_allowed before x)
   pub terminal : (x : Lexeme) (t : Terminal) → Stands before x t ↔ (terminal_at before x ≡ Some t)
   pub end : NextEnd before ↔ IsTrue (end_allowed before)
 
--- The tokens are derived exactly where a tree spells them, and no two trees do.
+-- The tokens are derived exactly where they are those of a tree, and then of just one.
 pub record TreeLaw (xs : List Lexeme) : Type 0 where
   pub tree : NextEnd xs ↔ IsFile xs
   pub only : (v w : Value file) → spelling file v ≡ xs → spelling file w ≡ xs → v ≡ w

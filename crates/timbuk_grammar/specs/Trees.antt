@@ -1,5 +1,5 @@
 -- Derivations as trees, and the tokens that they spell (this project's own format).
-use Rattle.std.specs.Prelude.{◌≡◌, true, List, [], ◌∷◌, ◌++◌, Option, Some, None, flat_map, ◌⊎◌}
+use Rattle.std.specs.Prelude.{◌≡◌, ◌⊎◌, true, List, [], ◌∷◌, ◌++◌, Option, Some, None, flat_map}
 use Rattle.std.proofs.Common.{inl, inr}
 use Rattle.timbuk_lex.specs.declared.lexeme.Lexeme.{Lexeme}
 use Rattle.timbuk_grammar.specs.declared.terminal.Place.{Place}
@@ -8,23 +8,23 @@ use Rattle.timbuk_grammar.specs.declared.terminal.Terminal.TheVariants as termin
 use Rattle.timbuk_grammar.specs.Matching.{matches}
 use Rattle.timbuk_grammar.specs.Grammar.{Part, one, ◌then◌, ◌or◌, maybe, many, pattern, file}
 
--- a token that a terminal stands for
+-- a token that matches this terminal
 pub record Token (t : Terminal) : Type 0 where
   pub lexeme : Lexeme
-  pub fits : matches t lexeme ≡ true
+  pub matched : matches t lexeme ≡ true
 
 mutual
-  -- a pattern: a name alone, or a name and its arguments in parentheses
+  -- a pattern: a name alone, or a name with its arguments in parentheses
   pub data Tree (p : Place) : Type 0 where
     leaf : Token (terminal.Named p) → Tree p
     node : Token (terminal.Named p) → Token terminal.OpenParen → Tree p → Trees p → Token terminal.CloseParen → Tree p
 
-  -- the arguments after the first, each after a comma
+  -- the arguments after the first, each with the comma before it
   pub data Trees (p : Place) : Type 0 where
     none : Trees p
     comma : Token terminal.Comma → Tree p → Trees p → Trees p
 
--- the derivations of a part
+-- the trees of a part
 abbrev pub Value : Part → Type 0
 Value (one t) = Token t
 Value (a then b) = Value a × Value b
@@ -43,9 +43,9 @@ abbrev mutual
   -- the tokens of the arguments after the first
   pub more_spelling : (p : Place) → Trees p → List Lexeme
   more_spelling p none = []
-  more_spelling p (comma mark next more) = mark.lexeme ∷ (pattern_spelling p next ++ more_spelling p more)
+  more_spelling p (comma mark argument more) = mark.lexeme ∷ (pattern_spelling p argument ++ more_spelling p more)
 
--- the tokens that a derivation is of
+-- the tokens of a tree
 abbrev pub spelling : (p : Part) → Value p → List Lexeme
 spelling (one t) v = v.lexeme ∷ []
 spelling (a then b) v = spelling a v.0 ++ spelling b v.1
@@ -56,6 +56,6 @@ spelling (maybe a) (Some v) = spelling a v
 spelling (many a) vs = flat_map (spelling a) vs
 spelling (pattern p) v = pattern_spelling p v
 
--- the tokens are those of a file
+-- a tree of a file has these tokens
 abbrev pub IsFile : List Lexeme → Type 0
 IsFile xs = (v : Value file) × (spelling file v ≡ xs)
