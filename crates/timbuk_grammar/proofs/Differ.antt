@@ -42,6 +42,7 @@ form_of terminal.Arrow = the_mark (codes "->")
 form_of terminal.Equals = the_mark (codes "=")
 form_of terminal.OpenBracket = the_mark (codes "[")
 form_of terminal.CloseBracket = the_mark (codes "]")
+form_of terminal.CloseEntries = the_mark (codes "]")
 form_of (terminal.Named place) = any_name
 form_of terminal.Number = any_number
 form_of terminal.Zero = the_word (codes "0")

@@ -45,7 +45,7 @@ rule = pattern place.LeftSide then one terminal.Arrow then pattern place.RightSi
 
 -- equation = pattern "=" pattern
 abbrev pub equation : Part
-equation = pattern place.EquationSide then one terminal.Equals then pattern place.EquationSide
+equation = pattern place.EquationLeft then one terminal.Equals then pattern place.EquationRight
 
 -- transition = name [ "(" name ( "," name )* ")" ] "->" name
 abbrev pub transition : Part
@@ -59,7 +59,7 @@ entry = name place.EntryHead then arguments (name place.EntryArgument) then one 
 abbrev pub approximation_rule : Part
 approximation_rule =
     one terminal.OpenBracket then pattern place.EntryWhole then one terminal.Arrow then name place.EntryAt then one terminal.CloseBracket
-    then one terminal.Arrow then one terminal.OpenBracket then some entry then one terminal.CloseBracket
+    then one terminal.Arrow then one terminal.OpenBracket then some entry then one terminal.CloseEntries
 
 -- ops = "Ops" op*
 abbrev pub ops : Part

@@ -55,6 +55,7 @@ matches terminal.Arrow x = mark (codes "->") x
 matches terminal.Equals x = mark (codes "=") x
 matches terminal.OpenBracket x = mark (codes "[") x
 matches terminal.CloseBracket x = mark (codes "]") x
+matches terminal.CloseEntries x = mark (codes "]") x
 matches (terminal.Named place) x = is_word x.kind && not (is_reserved x.text)
 matches terminal.Number x = is_word x.kind && list_all is_ascii_digit x.text
 matches terminal.Zero x = word (codes "0") x

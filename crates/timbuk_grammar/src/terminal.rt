@@ -20,8 +20,10 @@ pub enum Place {
     LeftSide,
     /// A name in the right side of a rule.
     RightSide,
-    /// A name in a side of an equation.
-    EquationSide,
+    /// A name in the left side of an equation.
+    EquationLeft,
+    /// A name in the right side of an equation.
+    EquationRight,
     /// A state, where an automaton declares it.
     State,
     /// A state, where the approximation declares it.
@@ -89,8 +91,10 @@ pub enum Terminal {
     Equals,
     /// The mark `[`.
     OpenBracket,
-    /// The mark `]`.
+    /// The mark `]` after the name of an approximation rule.
     CloseBracket,
+    /// The mark `]` after the entries of an approximation rule.
+    CloseEntries,
     /// A name: any word that is neither a section word nor a closed word.
     Named(Place),
     /// An arity: a word of digits.
@@ -148,7 +152,7 @@ impl Terminal {
             Terminal::Arrow => is_this_mark(lexeme, b"->"),
             Terminal::Equals => is_this_mark(lexeme, b"="),
             Terminal::OpenBracket => is_this_mark(lexeme, b"["),
-            Terminal::CloseBracket => is_this_mark(lexeme, b"]"),
+            Terminal::CloseBracket | Terminal::CloseEntries => is_this_mark(lexeme, b"]"),
             Terminal::Named(_) => {
                 matches!(lexeme.kind, TokenKind::Word) && !is_reserved_word(lexeme.text.as_slice())
             }

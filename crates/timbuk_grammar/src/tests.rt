@@ -7,7 +7,7 @@ use std::test::Fail;
 use timbuk_lex::lex_of;
 
 /// Each terminal, with one place of a name for all.
-const TERMINALS: [Terminal; 24] = [
+const TERMINALS: [Terminal; 25] = [
     Terminal::Ops,
     Terminal::Vars,
     Terminal::Trs,
@@ -28,6 +28,7 @@ const TERMINALS: [Terminal; 24] = [
     Terminal::Equals,
     Terminal::OpenBracket,
     Terminal::CloseBracket,
+    Terminal::CloseEntries,
     Terminal::Named(Place::State),
     Terminal::Number,
     Terminal::Zero,
@@ -67,7 +68,10 @@ fn tokens_match_their_terminals(rt: HostRuntime) -> Result<(), Fail> {
             "Equations ; Approximation ; Rules ; ",
         ),
         (": ( ) ,", "Colon ; OpenParen ; CloseParen ; Comma ; "),
-        ("-> = [ ]", "Arrow ; Equals ; OpenBracket ; CloseBracket ; "),
+        (
+            "-> = [ ]",
+            "Arrow ; Equals ; OpenBracket ; CloseBracket CloseEntries ; ",
+        ),
         // Closed words match nothing, and other words are names, whatever their letters.
         ("Import Set Patterns", "; ; ; "),
         (

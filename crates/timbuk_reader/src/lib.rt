@@ -1,0 +1,8 @@
+//! The reader of input texts: what a text spells, or its first fault.
+#![tactic(auto)]
+
+mod fault;
+mod laws;
+
+pub use fault::{LimitName, SpecFault, SpecKind};
+pub use laws::{no_text_has_two_specs, texts_are_read};
