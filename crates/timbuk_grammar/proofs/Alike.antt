@@ -49,7 +49,8 @@ meets_when : {x : Lexeme} (b : Bool) {ts : List Terminal} → b ≡ true → Mee
 meets_when true e m = m
 meets_when false e m = cc
 
-meets_apart : (ts us : List Terminal) (x : Lexeme) {t u : Terminal} → all_apart (ts ++ us) ≡ true → Among t ts → Among u us → matches t x ≡ true → matches u x ≡ true → ⊥
+meets_apart : (ts us : List Terminal) (x : Lexeme) {t u : Terminal} → all_apart (ts ++ us) ≡ true → Among t ts → Among u us
+    → matches t x ≡ true → matches u x ≡ true → ⊥
 meets_apart [] us x e h k m n = elim h [ ]
 meets_apart (t ∷ ts) us x {u = u} e here k m n = both_ways _ (apart t u x (apart_from t (ts ++ us) (and_parts _ _ e).0 (among_right ts k)) m) n
 meets_apart (s ∷ ts) us x e (later h) k m n = meets_apart ts us x (and_parts _ _ e).1 h k m n
@@ -132,7 +133,8 @@ pair_path v w e f = ap (λ z. (z, v.1)) e ∙ ap (λ z. (w.0, z)) f
 regroup : (xs ys zs xs' ys' zs' : List Lexeme) → (xs ++ ys) ++ zs ≡ (xs' ++ ys') ++ zs' → xs ++ (ys ++ zs) ≡ xs' ++ (ys' ++ zs')
 regroup xs ys zs xs' ys' zs' e = sym (append_assoc xs ys zs) ∙ e ∙ append_assoc xs' ys' zs'
 
-many_alike : (a : Part) (ts : List Terminal) (vs ws : List (Value a)) (ys zs : List Lexeme) → not (empties a) ≡ true → all_apart (firsts a ++ ts) ≡ true
+many_alike : (a : Part) (ts : List Terminal) (vs ws : List (Value a)) (ys zs : List Lexeme) → not (empties a) ≡ true
+    → all_apart (firsts a ++ ts) ≡ true
     → ((v w : Value a) (ys zs : List Lexeme) → Follows (firsts a ++ ts) ys → Follows (firsts a ++ ts) zs → spelling a v ++ ys ≡ spelling a w ++ zs → Alike v w ys zs)
     → Follows ts ys → Follows ts zs → flat_map (spelling a) vs ++ ys ≡ flat_map (spelling a) ws ++ zs → Alike vs ws ys zs
 many_alike a ts [] [] ys zs n d h f g e = (refl, e)
@@ -150,7 +152,8 @@ many_alike a ts (v ∷ vs) (w ∷ ws) ys zs n d h f g e =
 abbrev after_argument : List Terminal
 after_argument = terminal.Comma ∷ terminal.CloseParen ∷ []
 
-more_follows : (p : Place) (vs : Trees p) (closing : Token terminal.CloseParen) (ys : List Lexeme) → Follows after_argument (more_spelling p vs ++ closing.lexeme ∷ ys)
+more_follows : (p : Place) (vs : Trees p) (closing : Token terminal.CloseParen) (ys : List Lexeme)
+    → Follows after_argument (more_spelling p vs ++ closing.lexeme ∷ ys)
 more_follows p none closing ys = next (right_meets (terminal.Comma ∷ []) (is_token closing []))
 more_follows p (comma mark argument more) closing ys = next (is_token mark (terminal.CloseParen ∷ []))
 
@@ -164,7 +167,8 @@ inside : (xs ys zs : List Lexeme) (x : Lexeme) → (xs ++ (ys ++ x ∷ [])) ++ z
 inside xs ys zs x = append_assoc xs (ys ++ x ∷ []) zs ∙ ap (λ z. xs ++ z) (append_assoc ys (x ∷ []) zs)
 
 -- no arguments stand where none do
-no_arguments : {P : Type 0} {ts : List Terminal} {x y : Lexeme} {ys zs : List Lexeme} (opening : Token terminal.OpenParen) → all_apart (terminal.OpenParen ∷ ts) ≡ true → Follows ts ys
+no_arguments : {P : Type 0} {ts : List Terminal} {x y : Lexeme} {ys zs : List Lexeme} (opening : Token terminal.OpenParen)
+    → all_apart (terminal.OpenParen ∷ ts) ≡ true → Follows ts ys
     → x ∷ ys ≡ y ∷ opening.lexeme ∷ zs → P
 no_arguments {ts = ts} {ys = ys} {zs = zs} opening d f e =
     let k : opening.lexeme ∷ zs ≡ ys = cc in
@@ -177,7 +181,8 @@ record AlikeMore {p : Place} (vs ws : Trees p) (c k : Token terminal.CloseParen)
   pub behind : ys ≡ zs
 
 mutual
-  tree_alike : (p : Place) → (v : Tree p) → (w : Tree p) → (ts : List Terminal) → (ys zs : List Lexeme) → all_apart (terminal.OpenParen ∷ ts) ≡ true
+  tree_alike : (p : Place) → (v : Tree p) → (w : Tree p) → (ts : List Terminal) → (ys zs : List Lexeme)
+      → all_apart (terminal.OpenParen ∷ ts) ≡ true
       → Follows ts ys → Follows ts zs → pattern_spelling p v ++ ys ≡ pattern_spelling p w ++ zs → Alike v w ys zs
   tree_alike p (leaf n) (leaf m) ts ys zs d f g e = let k = token_path n m (cc) in (ap leaf k, cc)
   tree_alike p (leaf n) (node m opening argument more closing) ts ys zs d f g e = no_arguments opening d f e

@@ -24,7 +24,8 @@ record Leads (ps : List Part) (xs ys : List Lexeme) (rs : List Part) : Type 0 wh
   pub decided : all_decide behind ≡ true
   pub after : Opens behind ys rs
 
-leads : (xs : List Lexeme) (ps : List Part) {ys : List Lexeme} {rs : List Part} → all_decide ps ≡ true → Opens ps (xs ++ ys) rs → Leads ps xs ys rs
+leads : (xs : List Lexeme) (ps : List Part) {ys : List Lexeme} {rs : List Part} → all_decide ps ≡ true → Opens ps (xs ++ ys) rs
+    → Leads ps xs ys rs
 leads [] ps d o = record { behind = ps; is_open = refl; decided = d; after = o }
 leads (x ∷ xs) ps {ys = ys} {rs = rs} d o =
     let g = told o in
@@ -38,11 +39,13 @@ record Chosen (ps : List Part) (x : Lexeme) (qs : List Part) : Type 0 where
   pub chosen : choice_of ps x ≡ Some choice
   pub behind : choice.behind ≡ qs
 
-chosen : (ps : List Part) (x : Lexeme) (qs : List Part) (o : Option Choice) → choice_of ps x ≡ o → option_map (λ c. c.behind) o ≡ Some qs → Chosen ps x qs
+chosen : (ps : List Part) (x : Lexeme) (qs : List Part) (o : Option Choice) → choice_of ps x ≡ o
+    → option_map (λ c. c.behind) o ≡ Some qs → Chosen ps x qs
 chosen ps x qs None f e = cc
 chosen ps x qs (Some c) f e = record { choice = c; chosen = f; behind = cc }
 
-step_opens : (ps : List Part) (x : Lexeme) (c : Choice) {xs : List Lexeme} {rs : List Part} → choice_of ps x ≡ Some c → Opens c.behind xs rs → Opens ps (x ∷ xs) rs
+step_opens : (ps : List Part) (x : Lexeme) (c : Choice) {xs : List Lexeme} {rs : List Part} → choice_of ps x ≡ Some c
+    → Opens c.behind xs rs → Opens ps (x ∷ xs) rs
 step_opens ps x c e o = let f = found_fits x (choices ps) c e in through (choice_opens ps f.among) (token f.matched o)
 
 reached : (xs : List Lexeme) (ps qs : List Part) → open_after_all ps xs ≡ Some qs → Opens ps xs qs
@@ -82,13 +85,15 @@ takes_stands before x c h =
     let r = some_text c.behind in
     record {
       behind = c.behind;
-      here = subst (λ z. Opens (file ∷ []) z (one c.terminal ∷ c.behind)) (append-nil before) (through (reached before (file ∷ []) h.behind h.is_open) (choice_opens h.behind f.among));
+      here = subst (λ z. Opens (file ∷ []) z (one c.terminal ∷ c.behind)) (append-nil before)
+          (through (reached before (file ∷ []) h.behind h.is_open) (choice_opens h.behind f.among));
       matched = f.matched;
       rest = r.0;
       whole = r.1;
     }
 
-at_takes : (before : List Lexeme) (x : Lexeme) (t : Terminal) (o : Option (List Part)) → open_parts before ≡ o → option_and_then (λ ps. terminal_of ps x) o ≡ Some t → Stands before x t
+at_takes : (before : List Lexeme) (x : Lexeme) (t : Terminal) (o : Option (List Part)) → open_parts before ≡ o
+    → option_and_then (λ ps. terminal_of ps x) o ≡ Some t → Stands before x t
 at_takes before x t None e f = cc
 at_takes before x t (Some ps) e f = at_choice (choice_of ps x) refl f
   where

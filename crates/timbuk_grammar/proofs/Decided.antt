@@ -89,12 +89,16 @@ terminals_if : (b : Bool) (cs : List Choice) → terminals (cond b cs []) ≡ co
 terminals_if true cs = refl
 terminals_if false cs = refl
 
-two_terminals : (cs ds : List Choice) (b : Bool) (ts us : List Terminal) → terminals cs ≡ ts → terminals ds ≡ us → terminals (cs ++ cond b ds []) ≡ ts ++ cond b us []
-two_terminals cs ds b ts us e f = map-append _ cs (cond b ds []) ∙ ap (λ z. z ++ terminals (cond b ds [])) e ∙ ap (λ z. ts ++ z) (terminals_if b ds ∙ ap (λ z. cond b z []) f)
+two_terminals : (cs ds : List Choice) (b : Bool) (ts us : List Terminal) → terminals cs ≡ ts → terminals ds ≡ us
+    → terminals (cs ++ cond b ds []) ≡ ts ++ cond b us []
+two_terminals cs ds b ts us e f =
+    map-append _ cs (cond b ds []) ∙ ap (λ z. z ++ terminals (cond b ds [])) e
+    ∙ ap (λ z. ts ++ z) (terminals_if b ds ∙ ap (λ z. cond b z []) f)
 
-begins_firsts : (p : Part) (ps : List Part) → terminals (begins p ps) ≡ firsts p
+pub begins_firsts : (p : Part) (ps : List Part) → terminals (begins p ps) ≡ firsts p
 begins_firsts (one t) ps = refl
-begins_firsts (a then b) ps = two_terminals (begins a (b ∷ ps)) (begins b ps) (empties a) (firsts a) (firsts b) (begins_firsts a (b ∷ ps)) (begins_firsts b ps)
+begins_firsts (a then b) ps =
+    two_terminals (begins a (b ∷ ps)) (begins b ps) (empties a) (firsts a) (firsts b) (begins_firsts a (b ∷ ps)) (begins_firsts b ps)
 begins_firsts (a or b) ps = two_terminals (begins a ps) (begins b ps) true (firsts a) (firsts b) (begins_firsts a ps) (begins_firsts b ps)
 begins_firsts (maybe a) ps = begins_firsts a ps
 begins_firsts (many a) ps = begins_firsts a (many a ∷ ps)
@@ -116,7 +120,8 @@ apart_from t [] e h = elim h [ ]
 apart_from t (u ∷ ts) e here = (and_parts _ _ e).0
 apart_from t (v ∷ ts) e (later h) = apart_from t ts (and_parts _ _ e).1 h
 
-found : (x : Lexeme) (cs : List Choice) {c : Choice} → all_apart (terminals cs) ≡ true → Among c cs → matches c.terminal x ≡ true → find (λ d. matches d.terminal x) cs ≡ Some c
+found : (x : Lexeme) (cs : List Choice) {c : Choice} → all_apart (terminals cs) ≡ true → Among c cs → matches c.terminal x ≡ true
+    → find (λ d. matches d.terminal x) cs ≡ Some c
 found x [] e h m = elim h [ ]
 found x (c ∷ cs) e here m = rw m refl
 found x (d ∷ cs) {c = c} e (later h) m =
@@ -125,14 +130,16 @@ found x (d ∷ cs) {c = c} e (later h) m =
     rw no (found x cs k.1 h m)
 
 -- where one token decides, the choice that a token fits is the one that is found
-pub finds : (x : Lexeme) (ps : List Part) {c : Choice} → all_decide ps ≡ true → Among c (choices ps) → matches c.terminal x ≡ true → choice_of ps x ≡ Some c
+pub finds : (x : Lexeme) (ps : List Part) {c : Choice} → all_decide ps ≡ true → Among c (choices ps) → matches c.terminal x ≡ true
+    → choice_of ps x ≡ Some c
 finds x ps d = found x (choices ps) (ap all_apart (choices_nexts ps) ∙ nexts_apart ps d)
 
 pub record Fits (x : Lexeme) (cs : List Choice) (c : Choice) : Type 0 where
   pub among : Among c cs
   pub matched : matches c.terminal x ≡ true
 
-found_by : (x : Lexeme) (d : Choice) (cs : List Choice) (c : Choice) (m : Bool) → matches d.terminal x ≡ m → (find (λ e. matches e.terminal x) cs ≡ Some c → Fits x cs c)
+found_by : (x : Lexeme) (d : Choice) (cs : List Choice) (c : Choice) (m : Bool) → matches d.terminal x ≡ m
+    → (find (λ e. matches e.terminal x) cs ≡ Some c → Fits x cs c)
     → cond m (Some d) (find (λ e. matches e.terminal x) cs) ≡ Some c → Fits x (d ∷ cs) c
 found_by x d cs c true m more e = let k : d ≡ c = cc in subst (Fits x (d ∷ cs)) k (record { among = here; matched = m })
 found_by x d cs c false m more e = let h = more e in record { among = later h.among; matched = h.matched }
@@ -144,7 +151,8 @@ found_fits x (d ∷ cs) c e = found_by x d cs c (matches d.terminal x) refl (fou
 
 -- ---- one token decides further on
 
-begins_decide : (p : Part) (ps : List Part) {c : Choice} → Among c (begins p ps) → decides p (nexts ps) ≡ true → all_decide ps ≡ true → all_decide c.behind ≡ true
+begins_decide : (p : Part) (ps : List Part) {c : Choice} → Among c (begins p ps) → decides p (nexts ps) ≡ true → all_decide ps ≡ true
+    → all_decide c.behind ≡ true
 begins_decide (one t) ps here d h = h
 begins_decide (one t) ps (later k) d h = elim k [ ]
 begins_decide (a then b) ps k d h =

@@ -27,7 +27,8 @@ mutual
   more_opens p none ps = stop stay
   more_opens p (comma mark next more) ps = again (both (token mark.matched (through (pattern_opens p next _) (more_opens p more ps))))
 
-many_opens : (a : Part) (vs : List (Value a)) (ps : List Part) → ((v : Value a) (qs : List Part) → Opens (a ∷ qs) (spelling a v) qs) → Opens (many a ∷ ps) (flat_map (spelling a) vs) ps
+many_opens : (a : Part) (vs : List (Value a)) (ps : List Part) → ((v : Value a) (qs : List Part) → Opens (a ∷ qs) (spelling a v) qs)
+    → Opens (many a ∷ ps) (flat_map (spelling a) vs) ps
 many_opens a [] ps h = stop stay
 many_opens a (v ∷ vs) ps h = again (through (h v (many a ∷ ps)) (many_opens a vs ps h))
 
@@ -70,7 +71,8 @@ tree_of : (p : Place) → Token (terminal.Named p) → Value (pattern_arguments 
 tree_of p n None = leaf n
 tree_of p n (Some v) = node n v.0 v.1.0 (more_of p v.1.1.0) v.1.1.1
 
-tree_spelled : (p : Place) (n : Token (terminal.Named p)) (v : Value (pattern_arguments p)) → pattern_spelling p (tree_of p n v) ≡ n.lexeme ∷ spelling (pattern_arguments p) v
+tree_spelled : (p : Place) (n : Token (terminal.Named p)) (v : Value (pattern_arguments p))
+    → pattern_spelling p (tree_of p n v) ≡ n.lexeme ∷ spelling (pattern_arguments p) v
 unfolding tree_of
 tree_spelled p n None = refl
 tree_spelled p n (Some v) = ap (λ z. n.lexeme ∷ v.0.lexeme ∷ (pattern_spelling p v.1.0 ++ (z ++ v.1.1.1.lexeme ∷ []))) (more_spelled p v.1.1.0)

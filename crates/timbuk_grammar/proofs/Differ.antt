@@ -71,10 +71,6 @@ differ (the_mark a) any_name = true
 differ any_name (the_mark b) = true
 differ _ _ = false
 
-both_true : (a b : Bool) → (a && b) ≡ true → (a ≡ true) × (b ≡ true)
-both_true true b e = (refl, e)
-both_true false b e = cc
-
 pub not_true : (b : Bool) → not b ≡ true → b ≡ false
 not_true true e = cc
 not_true false e = refl

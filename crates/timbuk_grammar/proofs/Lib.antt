@@ -6,3 +6,4 @@ pub mod Texts
 pub mod Computed
 pub mod Derived
 pub mod Alike
+pub mod Parts

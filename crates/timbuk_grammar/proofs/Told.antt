@@ -55,7 +55,8 @@ same_within : (ps : List Part) → Within ps ps
 same_within ps = record { choice = λ c h. h; ending = λ e. e }
 
 -- what may come next at two parts, one after the other, is grouped either way
-pub then_groups : {A : Type 0} (a b : Bool) (xs ys zs : List A) → xs ++ cond a (ys ++ cond b zs []) [] ≡ (xs ++ cond a ys []) ++ cond (a && b) zs []
+pub then_groups : {A : Type 0} (a b : Bool) (xs ys zs : List A)
+    → xs ++ cond a (ys ++ cond b zs []) [] ≡ (xs ++ cond a ys []) ++ cond (a && b) zs []
 then_groups true b xs ys zs = sym (append_assoc xs ys (cond b zs []))
 then_groups false b xs ys zs = sym (append-nil (xs ++ []))
 

@@ -6,10 +6,11 @@ use Rattle.timbuk_grammar.specs.declared.terminal.Terminal.{Terminal}
 use Rattle.timbuk_grammar.specs.Matching.{matches}
 use Rattle.timbuk_grammar.specs.Grammar.{Part, one, ◌then◌, ◌or◌, maybe, many, pattern, name, pattern_arguments, file}
 
--- The first parts, one after the other, derive these tokens and leave the last parts open. The first of them is taken apart by its form.
+-- Parts derive tokens one after the other and leave parts open; the first part is taken apart by its form, and one token takes a token.
 pub data Opens : List Part → List Lexeme → List Part → Type 0 where
   stay : {ps : List Part} → Opens ps [] ps
-  token : {t : Terminal} {x : Lexeme} {ps qs : List Part} {xs : List Lexeme} → matches t x ≡ true → Opens ps xs qs → Opens (one t ∷ ps) (x ∷ xs) qs
+  token : {t : Terminal} {x : Lexeme} {ps qs : List Part} {xs : List Lexeme} → matches t x ≡ true → Opens ps xs qs
+      → Opens (one t ∷ ps) (x ∷ xs) qs
   both : {a b : Part} {ps qs : List Part} {xs : List Lexeme} → Opens (a ∷ b ∷ ps) xs qs → Opens (a then b ∷ ps) xs qs
   first : {a b : Part} {ps qs : List Part} {xs : List Lexeme} → Opens (a ∷ ps) xs qs → Opens (a or b ∷ ps) xs qs
   second : {a b : Part} {ps qs : List Part} {xs : List Lexeme} → Opens (b ∷ ps) xs qs → Opens (a or b ∷ ps) xs qs
@@ -17,7 +18,8 @@ pub data Opens : List Part → List Lexeme → List Part → Type 0 where
   take : {a : Part} {ps qs : List Part} {xs : List Lexeme} → Opens (a ∷ ps) xs qs → Opens (maybe a ∷ ps) xs qs
   stop : {a : Part} {ps qs : List Part} {xs : List Lexeme} → Opens ps xs qs → Opens (many a ∷ ps) xs qs
   again : {a : Part} {ps qs : List Part} {xs : List Lexeme} → Opens (a ∷ many a ∷ ps) xs qs → Opens (many a ∷ ps) xs qs
-  head : {p : Place} {ps qs : List Part} {xs : List Lexeme} → Opens (name p ∷ pattern_arguments p ∷ ps) xs qs → Opens (pattern p ∷ ps) xs qs
+  head : {p : Place} {ps qs : List Part} {xs : List Lexeme} → Opens (name p ∷ pattern_arguments p ∷ ps) xs qs
+      → Opens (pattern p ∷ ps) xs qs
 
 -- these parts, one after the other, derive these tokens
 abbrev pub Derives : List Part → List Lexeme → Type 0

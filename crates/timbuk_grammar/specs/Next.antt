@@ -1,6 +1,6 @@
 -- What the grammar allows next, computed one token at a time from the parts that are open (this project's own format).
 use Rattle.std.specs.Prelude.{Bool, true, false, ◌&&◌, ◌||◌, if◌then◌else◌, List, [], ◌∷◌, ◌++◌, find, Option, Some, is_some, option_map, option_and_then}
-use Rattle.std.specs.List.{list_all}
+use Rattle.std.specs.List.{list_all, list_any}
 use Rattle.std.specs.Option.{option_map_or}
 use Rattle.timbuk_lex.specs.declared.lexeme.Lexeme.{Lexeme}
 use Rattle.timbuk_grammar.specs.declared.terminal.Terminal.{Terminal}
@@ -32,6 +32,10 @@ begins (a or b) ps = begins a ps ++ begins b ps
 begins (maybe a) ps = begins a ps
 begins (many a) ps = begins a (many a ∷ ps)
 begins (pattern p) ps = record { terminal = terminal.Named p; behind = pattern_arguments p ∷ ps } ∷ []
+
+-- the part begins with this token
+abbrev pub begins_with : Part → Lexeme → Bool
+begins_with p x = list_any (λ c. matches c.terminal x) (begins p [])
 
 -- the terminals that may come next
 abbrev pub choices : List Part → List Choice
