@@ -12,3 +12,4 @@ pub mod Reading
 pub mod Parts
 pub mod Reads
 pub mod Closing
+pub mod Meeting
