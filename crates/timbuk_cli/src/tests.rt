@@ -8,6 +8,7 @@ use std::alloc::{AllocError, Global};
 use std::test::Fail;
 use tim_io::{HonestShelf, HonestSink, MemShelf, MemSink};
 
+mod forbidden;
 mod verdicts;
 
 /// A text without rules, with one state that a constant runs to.
