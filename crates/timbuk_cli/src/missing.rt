@@ -12,5 +12,4 @@ pub(crate) fn have_no_common_term(
     second: &Automaton,
 ) -> Result<bool, AllocError>
     ensures { IfOk result (λ yes. IsTrue yes ↔ HaveNoCommonTerm first.now second.now) }
-{
-}
+{}

@@ -47,7 +47,11 @@ fn automata_without_a_common_term_settle_reachability(rt: HostRuntime) -> Result
     for (shows, text) in texts {
         let (status, sink) = complete(rt.alloc(), text)?;
         assert_eq!(rt; status, Status::Unreachable, "{shows}");
-        assert_eq!(rt; sink.bytes(), b"Verdict unreachable\n".as_slice(), "{shows}");
+        assert_eq!(rt;
+            sink.bytes(),
+            b"Verdict unreachable\n".as_slice(),
+            "{shows}"
+        );
     }
     Ok(())
 }
@@ -108,19 +112,39 @@ fn what_is_no_second_automaton_is_refused(rt: HostRuntime) -> Result<(), Fail> {
         ("a title alone", "Automaton B"),
         ("no final states", "Automaton B States p Transitions a -> p"),
         ("no transitions", "Automaton B States p Final States p"),
-        ("a state of the first automaton", "Automaton B States p Final States q Transitions a -> p"),
-        ("a target of the first automaton", "Automaton B States p Final States p Transitions a -> q"),
-        ("a state with the name of a symbol", "Automaton B States a Final States Transitions"),
-        ("a state with the name of a variable", "Automaton B States x Final States Transitions"),
-        ("a state twice", "Automaton B States p p Final States Transitions"),
+        (
+            "a state of the first automaton",
+            "Automaton B States p Final States q Transitions a -> p",
+        ),
+        (
+            "a target of the first automaton",
+            "Automaton B States p Final States p Transitions a -> q",
+        ),
+        (
+            "a state with the name of a symbol",
+            "Automaton B States a Final States Transitions",
+        ),
+        (
+            "a state with the name of a variable",
+            "Automaton B States x Final States Transitions",
+        ),
+        (
+            "a state twice",
+            "Automaton B States p p Final States Transitions",
+        ),
         (
             "a third automaton",
             "Automaton B States p Final States p Transitions Automaton C States r Final States r Transitions",
         ),
-        ("a second system", "TRS S Automaton B States p Final States p Transitions"),
+        (
+            "a second system",
+            "TRS S Automaton B States p Final States p Transitions",
+        ),
     ];
     for (shows, end) in ends {
-        let text = format!(in rt.alloc(); "Ops a:0 Vars x TRS R Automaton A States q Final States q Transitions a -> q {end}")?;
+        let text = format!(in rt.alloc();
+            "Ops a:0 Vars x TRS R Automaton A States q Final States q Transitions a -> q {end}"
+        )?;
         let (status, sink) = complete(rt.alloc(), text.as_bytes())?;
         assert_eq!(rt; status, Status::BadSpec, "{shows}");
         assert_eq!(rt; sink.bytes(), b"Bad specification\n".as_slice(), "{shows}");
