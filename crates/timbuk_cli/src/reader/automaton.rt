@@ -1,7 +1,7 @@
 //! Reads an automaton: its title, its states, its final states and its transitions.
-ghost use Rattle.std.specs.Prelude.{◌≡◌, ◌≤◌, ◌++◌, All, Contains, IsTrue, length, option_map, IfOk, IsErrOf};
+ghost use Rattle.std.specs.Prelude.{◌≡◌, ◌≤◌, ◌++◌, All, Contains, IsTrue, length, option_map, IfSome, IfOk, IsErrOf};
 ghost use Rattle.std.specs.List.{range_with_len, IsDistinct};
-ghost use Rattle.std.specs.Option.{option_copied, ForSome};
+ghost use Rattle.std.specs.Option.{option_copied};
 ghost use Rattle.std.specs.Str.{bytes_eq};
 ghost use Rattle.ranked_terms.specs.Names.{names_of};
 ghost use Rattle.ta_core.specs.TreeAutomaton.{bare};
@@ -111,10 +111,10 @@ pub(crate) fn read_forbidden(
     sections: Option<&AutomatonSections>,
 ) -> Result<Automaton, SpecError>
     requires distinct { IsDistinct bytes_eq (names_of signature.now ++ variables.now) }
-    requires tokens { ForSome (option_copied sections) AreAutomatonTokens }
-    ensures ok { IfOk result (λ automaton. ReadsForbidden signature.now (names_of signature.now ++ variables.now) (option_map glyphs_in (option_copied sections)) automaton) }
+    requires tokens { IfSome (option_copied sections) AreAutomatonTokens }
+    ensures ok { IfOk result (λ automaton. ReadsForbidden signature.now (names_of signature.now ++ variables.now) (option_map glyphs_in (option_copied sections.entry)) automaton) }
     ensures over { IfOk result (λ automaton. IsTrue (automaton_is_over signature.now automaton)) }
-    ensures unread { IsErrOf result SpecError.Unread → LacksForbidden signature.now (names_of signature.now ++ variables.now) (option_map glyphs_in (option_copied sections)) }
+    ensures unread { IsErrOf result SpecError.Unread → LacksForbidden signature.now (names_of signature.now ++ variables.now) (option_map glyphs_in (option_copied sections.entry)) }
 {
     match sections {
         Some(sections) => read_automaton(alloc, signature, variables, sections),

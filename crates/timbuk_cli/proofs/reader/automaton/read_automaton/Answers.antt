@@ -15,7 +15,7 @@ returns-then-not-read_title-clause-unread c = λ _. no_title c.args.signature.no
 
 pub returns-in_err-states-clause-unread : goal.returns-in_err-states-clause-unread
 returns-in_err-states-clause-unread c =
-    let e = err_from_is_err_and c.from_residual-in_err-states.result c.from_residual-in_err-states.ensures.1 in
+    let e = err_from_is_err_and c.from_residual.result c.from_residual.ensures.1 in
     rw (e.1, e.2) (λ unread. no_states c.args.signature.now (names_of c.args.signature.now ++ c.args.variables.now) c.args.sections.now (c.in_err-states.ensures.unread (same_error _ _ unread)))
 
 pub returns-in_err-finals-clause-unread : goal.returns-in_err-finals-clause-unread
