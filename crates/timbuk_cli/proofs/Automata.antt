@@ -1,6 +1,5 @@
 -- What the declarations of an automaton number.
-use Rattle.std.proofs.Common.{◌≡◌, ◌≢◌, ℕ, ◌+◌, ◌<◌, ◌==◌, true, List, [], ◌∷◌, ◌++◌, Option, Some, None, All, Contains, IsTrue, map, length, unwrap_or, option_map, refl, sym, ap, subst, ◌∙◌, inr, ⊎_elim, arith}
-use Rattle.std.specs.Prelude.{IfSome}
+use Rattle.std.proofs.Common.{◌≡◌, ◌≢◌, ℕ, ◌+◌, ◌<◌, ◌==◌, true, List, [], ◌∷◌, ◌++◌, Some, All, Contains, IsTrue, map, length, sym, ap, subst, ◌∙◌, inr, ⊎_elim, arith}
 use Rattle.std.specs.declared.cmp.Ordering.{Ordering}
 use Rattle.std.specs.List.{range_with_len}
 use Rattle.std.specs.List.Sorted.{IsStrictlySortedBy}
@@ -21,10 +20,10 @@ use Rattle.timbuk_lex.specs.declared.lexeme.Lexeme.{Lexeme}
 use Rattle.timbuk_cli.specs.declared.reader.sections.AutomatonSections.{AutomatonSections}
 use Rattle.timbuk_cli.specs.Glyphs.{Text, word, glyphs_of}
 use Rattle.timbuk_cli.specs.Source.{TransitionDeclaration, AutomatonDeclaration, spelled_name, spelled_transition, spelled_all}
-use Rattle.timbuk_cli.specs.SpecText.{place_in, transition_of, AreNewNames, IsAllowedTransition, IsAllowedAutomaton, IsAscendingSet, NumbersForbidden}
+use Rattle.timbuk_cli.specs.SpecText.{place_in, transition_of, AreNewNames, IsAllowedTransition, IsAscendingSet}
 use Rattle.timbuk_cli.specs.Sections.{AutomatonBodies, automaton_bodies, glyphs_in}
 use Rattle.timbuk_cli.specs.Reading.{IsOneName}
-use Rattle.timbuk_cli.specs.Reads.{ReadsAll, LacksAll, ReadsAutomaton, LacksAutomaton, ReadsForbidden, LacksForbidden}
+use Rattle.timbuk_cli.specs.Reads.{ReadsAll, LacksAll, ReadsAutomaton, LacksAutomaton, ReadsForbidden}
 use Rattle.timbuk_cli.proofs.Fronts.{same_tail, below_from_position}
 use Rattle.timbuk_cli.proofs.Decoding.{Decodes}
 use Rattle.timbuk_cli.proofs.Spelling.{same_all, names-decodable}
@@ -164,24 +163,5 @@ module _ (signature : List Symbol) (taken : List Text) (p : AutomatonSections) w
 
 -- ---- the automaton that may be left out
 
-module _ (signature : List Symbol) (taken : List Text) where
-  pub reads_forbidden : (b : AutomatonBodies) (A : TreeAutomaton) → ReadsAutomaton signature taken b A → ReadsForbidden signature taken (Some b) A
-  reads_forbidden b A r = record { declaration = Some r.declaration; spelled = ap Some r.spelled; allowed = r.allowed; numbers = r.numbers }
-
-  pub reads_none : (A : TreeAutomaton) → A ≡ bare 0 [] → ReadsForbidden signature taken None A
-  reads_none A e = record { declaration = None; spelled = refl; allowed = tt; numbers = e }
-
-  no_declaration : (b : AutomatonBodies) → LacksAutomaton signature taken b → (d : Option AutomatonDeclaration) → IfSome d (IsAllowedAutomaton signature taken) → Some b ≢ option_map automaton_bodies d
-  no_declaration b lacks None ok e = cc
-  no_declaration b lacks (Some d) ok e = lacks.none d ok (ap (λ o. unwrap_or o b) e)
-
-  pub lacks_forbidden : (b : AutomatonBodies) → LacksAutomaton signature taken b → LacksForbidden signature taken (Some b)
-  lacks_forbidden b lacks = record { none = no_declaration b lacks }
-
-  -- the states are all the numbers below `next`
-  numbered : (d : Option AutomatonDeclaration) (A : TreeAutomaton) → NumbersForbidden signature d A → A.states ≡ range_with_len 0 A.next
-  numbered None A e = rw e refl
-  numbered (Some d) A h = h.states_are ∙ ap (range_with_len 0) (sym h.next_is)
-
-  pub forbidden_numbered : (bodies : Option AutomatonBodies) (A : TreeAutomaton) → ReadsForbidden signature taken bodies A → A.states ≡ range_with_len 0 A.next
-  forbidden_numbered bodies A r = numbered r.declaration A r.numbers
+pub reads_forbidden : (signature : List Symbol) (taken : List Text) (b : AutomatonBodies) (A : TreeAutomaton) → ReadsAutomaton signature taken b A → ReadsForbidden signature taken (Some b) A
+reads_forbidden signature taken b A r = record { declaration = Some r.declaration; spelled = ap Some r.spelled; allowed = r.allowed; numbers = r.numbers }
