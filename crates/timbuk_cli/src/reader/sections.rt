@@ -136,9 +136,7 @@ fn automaton_sections<'s, 'a>(
 }
 
 /// The sections of an automaton, where the tokens are these and nothing else.
-fn only_automaton_sections<'s, 'a>(
-    lexemes: &'s [Lexeme<'a>],
-) -> Option<AutomatonSections<'s, 'a>>
+fn only_automaton_sections<'s, 'a>(lexemes: &'s [Lexeme<'a>]) -> Option<AutomatonSections<'s, 'a>>
     ensures value { option_map glyphs_in result ≡ only_automaton_of (glyphs_of lexemes.now) }
     ensures tokens { All HasWord lexemes.now → IfSome result AreAutomatonTokens }
 {

@@ -33,7 +33,7 @@ forbidden_is c =
     elim c.if-is_empty.branch [
       | then-is_empty w ↦ rw w.forbidden-is (forbidden_of-none rest (sym c.is_empty.ensures ∙ w.if-is_empty.true))
       | else-is_empty+in_ok-only_automaton_sections w ↦
-      rw w.forbidden-is (forbidden_of-tokens rest (sym c.is_empty.ensures ∙ w.if-is_empty.false) ∙ rw (← w.in_ok-only_automaton_sections.ensures.value) refl)
+          rw w.forbidden-is (forbidden_of-tokens rest (sym c.is_empty.ensures ∙ w.if-is_empty.false) ∙ rw (← w.in_ok-only_automaton_sections.ensures.value) refl)
     ]
 
 abbrev bodies_found : goal.Joined-is_empty → Bodies
