@@ -9,6 +9,7 @@
 //! where all pairs of their arguments are marked. So two transitions are looked at at most once for each argument, and
 //! when the last of their pairs is taken all of them are marked.
 ghost use Rattle.std.specs.Prelude.{◌≡◌, ◌↔◌, ℕ, IsTrue, IfOk, OnOk, All, Contains};
+ghost use Rattle.ta_core.specs.TreeAutomaton.{IsSound};
 ghost use Rattle.ta_core.specs.declared.trans.Trans.{Trans as Transition};
 ghost use Rattle.timbuk_cli.specs.Meeting.{Meets, HaveNoCommonTerm};
 ghost use Rattle.timbuk_cli.specs.Products.{Keeps, StepsTo, Enters, EntersBy, EntersAt, Starts, HasNoFinal};
@@ -128,6 +129,8 @@ impl<'a> Product<'a> {
         ensures meets { OnOk result (All (Meets self.now.first self.now.second) pairs.new) }
         ensures kept { OnOk result (Keeps pairs.old pairs.new) }
         ensures marked { OnOk result ((next : ℕ × ℕ) → StepsTo self.now (p, q) next → Contains pairs.new next) }
+        ensures first_sound { OnOk result (IsSound self.now.first) }
+        ensures second_sound { OnOk result (IsSound self.now.second) }
     {
         pairs.mark_firsts(self.first.eps_from(p), q)?;
         pairs.mark_seconds(p, self.second.eps_from(q))
