@@ -159,13 +159,13 @@ impl<'a> Product<'a> {
         ensures marked { OnOk result ((next : ℕ × ℕ) → EntersBy self.now pairs.old used q next → Contains pairs.new next) }
     {
         let left = &self.first.trans()[used.position];
+        let rights = self.second.trans();
         let slot = Slot {
             state: q,
             ..used.slot
         };
         for other in self.second_uses.at_slot(slot) {
-            let right = &self.second.trans()[other.position];
-            self.enter(left, right, pairs)?;
+            self.enter(left, &rights[other.position], pairs)?;
         }
         Ok(())
     }

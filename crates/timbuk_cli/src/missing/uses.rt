@@ -62,8 +62,9 @@ impl Uses {
     pub(super) fn of_state(&self, state: u32) -> &[Use]
         ensures { (used : Used) → Contains result.now used ↔ (Contains self.now used × (used.slot.state ≡ state)) }
     {
-        let start = self.items.partition_point(|used| used.slot.state < state);
-        let rest = &self.items[start..];
+        let all = self.items.as_slice();
+        let start = all.partition_point(|used| used.slot.state < state);
+        let rest = &all[start..];
         let count = rest.partition_point(|used| used.slot.state <= state);
         &rest[..count]
     }
@@ -72,8 +73,9 @@ impl Uses {
     pub(super) fn at_slot(&self, slot: Slot) -> &[Use]
         ensures { (used : Used) → Contains result.now used ↔ (Contains self.now used × (used.slot ≡ slot)) }
     {
-        let start = self.items.partition_point(|used| used.slot < slot);
-        let rest = &self.items[start..];
+        let all = self.items.as_slice();
+        let start = all.partition_point(|used| used.slot < slot);
+        let rest = &all[start..];
         let count = rest.partition_point(|used| used.slot <= slot);
         &rest[..count]
     }
