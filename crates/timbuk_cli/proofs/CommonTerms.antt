@@ -1,9 +1,10 @@
 -- The pairs of states to which one ground term runs, as they are found.
-use Rattle.std.proofs.Common.{◌≡◌, ◌↔◌, ◌⊎◌, ℕ, suc, zero, ◌+◌, ◌*◌, ◌<◌, ◌≤◌, Bool, List, [], ◌∷◌, ◌++◌, length, get_or, take, map, zip, Some, slice_get, All, Contains, IsTrue, Result, Ok, Err, IfOk, refl, sym, ap, subst, ◌∙◌, inl, inr, ⊎_elim, length-append, mul-le-mul, arith}
+use Rattle.std.proofs.Common.{◌≡◌, ◌↔◌, ◌⊎◌, ℕ, suc, zero, ◌+◌, ◌*◌, ◌<◌, ◌≤◌, ◌==◌, min, Bool, true, false, List, [], ◌∷◌, ◌++◌, length, get_or, take, map, zip, Some, slice_get, All, Contains, IsTrue, Result, Ok, Err, IfOk, refl, sym, ap, subst, ◌∙◌, inl, inr, ⊎_elim, true≢false, length-append, mul-le-mul, arith}
 use Rattle.std.specs.List.{AllZip, AllByRecursion, IsDistinct}
 use Rattle.std.proofs.lemmas.List.{take_more, take_all, take-append-le}
 use Rattle.std.proofs.lemmas.List.Elements.{All-nil, All-cons, All-head, All-tail, All-weaker, All-contains, All-take, All-contains_itself, Contains-push_cases, Contains-get_or}
 use Rattle.std.proofs.lemmas.Option.{slice_get_within, slice_get-get_or, get_or_from_slice_get}
+use Rattle.std.proofs.lemmas.Slice.Zip.{get_or-zip, length-zip}
 use Rattle.ranked_terms.specs.Terms.{node, config_of}
 use Rattle.ranked_terms.specs.declared.term.Term.{Term}
 use Rattle.ranked_terms.specs.declared.term.Config.{Config, App}
@@ -16,8 +17,15 @@ use Rattle.ta_core.proofs.Keys.{all_from_members}
 use Rattle.ta_core.proofs.Members.{none, here, there, parts}
 use Rattle.ta_core.proofs.RunsLaws.{run_ends, run_of_app, zip_from_all}
 use Rattle.timbuk_cli.specs.Meeting.{Meets, HaveNoCommonTerm}
-use Rattle.timbuk_cli.specs.Products.{TwoAutomata, same_pair, Keeps, AreMarked, StepsTo, Enters, EntersAt, Starts, HasNoFinal}
-use Rattle.timbuk_cli.proofs.MarkedPairs.{keeps_itself, keeps_on, still, few_pairs}
+use Rattle.timbuk_cli.specs.Products.{TwoAutomata, same_pair, Keeps, AreMarked, StepsTo, Enters, EntersBy, EntersAt, Starts, HasNoFinal}
+use Rattle.timbuk_cli.specs.Uses.{IsUseOf, AreUsesOf}
+use Rattle.timbuk_cli.specs.declared.missing.uses.Use.{Use}
+use Rattle.timbuk_cli.proofs.MarkedPairs.{keeps_itself, keeps_on, still, Joins, Leads, few_pairs}
+use Rattle.timbuk_cli.proofs.UseLists.{use_of, same_some}
+
+-- the item that a loop is at
+pub item_in : {X : Type 0} (items : List X) (k : ℕ) (x : X) → k < length items → x ≡ get_or items k x → Contains items x
+item_in items k x l is = subst (Contains items) (sym is) (Contains-get_or items k x l)
 
 -- to both states of the pair, one term runs
 abbrev pub MeetsIn : TwoAutomata → ℕ × ℕ → Type 0
@@ -95,6 +103,96 @@ module _ (both : TwoAutomata) where
 
     pub marking_ends : (items : List X) (k : ℕ) (now : List (ℕ × ℕ)) → length items ≤ k → IsMarking P old (take k items) now → IsMarking P old items now
     marking_ends items k now l m = subst (λ all. IsMarking P old all now) (take_all k items l) m
+
+  -- ---- constants
+
+  no_args : (ps qs : List ℕ) → AreMarked [] ps qs → length ps ≡ 0
+  no_args [] qs m = refl
+  no_args (p ∷ ps) [] m = absurd (omega (arith, m.count))
+  no_args (p ∷ ps) (q ∷ qs) m = absurd (none (p, q) (All-head (Contains []) (p, q) (zip ps qs) m.each))
+
+  -- nothing is entered from no pair but by constants
+  pub starts_at_constants : (left right : Trans) (next : ℕ × ℕ) (args : List ℕ) (r : Bool) → args ≡ left.args → r ≡ (length args == 0) → r ≡ false → Enters both [] left right next → ⊥
+  starts_at_constants left right next args r is e f h =
+      let nothing : length args ≡ 0 = ap length is ∙ no_args left.args right.args h.marked in
+      true≢false (sym (ap (λ n. n == 0) nothing) ∙ (sym e ∙ f))
+
+  -- ---- epsilon transitions
+
+  module _ (p q : ℕ) (firsts seconds : List (ℕ × ℕ)) (from_p : (e : ℕ × ℕ) → Contains firsts e ↔ (Contains both.first.eps e × (e.0 ≡ p))) (from_q : (e : ℕ × ℕ) → Contains seconds e ↔ (Contains both.second.eps e × (e.0 ≡ q)))
+      (old mid new : List (ℕ × ℕ)) (to_mid : Joins old (Leads (λ n. n.0) (λ n. n.1) firsts q) mid) (to_new : Joins mid (Leads (λ n. n.1) (λ n. n.0) seconds p) new) where
+    first_step : (next : ℕ × ℕ) → Leads (λ n. n.0) (λ n. n.1) firsts q next → StepsTo both (p, q) next
+    first_step next h =
+        let e = (from_p (h.0, next.0)).0 h.1 in
+        let step : StepsTo both (p, q) (next.0, q) = StepsTo.first (subst (λ x. Contains both.first.eps (x, next.0)) e.1 e.0) in
+        subst (λ y. StepsTo both (p, q) (next.0, y)) (sym h.2) step
+
+    second_step : (next : ℕ × ℕ) → Leads (λ n. n.1) (λ n. n.0) seconds p next → StepsTo both (p, q) next
+    second_step next h =
+        let e = (from_q (h.0, next.1)).0 h.1 in
+        let step : StepsTo both (p, q) (p, next.1) = StepsTo.second (subst (λ x. Contains both.second.eps (x, next.1)) e.1 e.0) in
+        subst (λ x. StepsTo both (p, q) (x, next.1)) (sym h.2) step
+
+    pub steps_all_meet : All (MeetsIn both) old → Contains old (p, q) → All (MeetsIn both) new
+    steps_all_meet all marked =
+        let here : MeetsIn both (p, q) = All-contains (MeetsIn both) old (p, q) all marked in
+        let half : All (MeetsIn both) mid = meets_more old mid (Leads (λ n. n.0) (λ n. n.1) firsts q) all (λ next i. (to_mid next).0 i) (λ next h. steps_meet (p, q) next here (first_step next h)) in
+        meets_more mid new (Leads (λ n. n.1) (λ n. n.0) seconds p) half (λ next i. (to_new next).0 i) (λ next h. steps_meet (p, q) next here (second_step next h))
+
+    pub steps_all_marked : Keeps mid new → (next : ℕ × ℕ) → StepsTo both (p, q) next → Contains new next
+    steps_all_marked keeps next (StepsTo.first {p = r} i) = still mid new keeps (r, q) ((to_mid (r, q)).1 (inr (p, (from_p (p, r)).1 (i, refl), refl)))
+    steps_all_marked keeps next (StepsTo.second {q = r} i) = (to_new (p, r)).1 (inr (q, (from_q (q, r)).1 (i, refl), refl))
+
+  -- ---- uses
+
+  -- the transition at a use's position
+  pub used_trans : (trans : List Trans) (used : Use) (t : Trans) → IsUseOf trans used → t ≡ get_or trans used.position t → slice_get trans used.position ≡ Some t
+  used_trans trans used t is e = slice_get-get_or trans used.position t (slice_get_within trans used.position is.trans is.at) ∙ ap Some (sym e)
+
+  pub used_sym : (trans : List Trans) (used : Use) (t : Trans) → IsUseOf trans used → slice_get trans used.position ≡ Some t → t.sym ≡ used.slot.sym
+  used_sym trans used t is e = ap (λ (t : Trans). t.sym) (same_some t is.trans e is.at) ∙ is.is.sym
+
+  pub enters_by_later : (old now : List (ℕ × ℕ)) (used : Use) (q : ℕ) (next : ℕ × ℕ) → Keeps old now → EntersBy both old used q next → EntersBy both now used q next
+  enters_by_later old now used q next keeps e = record { left = e.left; right = e.right; at = e.at; there = e.there; enters = enters_later old now e.left e.right next keeps e.enters }
+
+  -- what a use of the second automaton at the same slot leads to
+  abbrev pub EntersWith : List (ℕ × ℕ) → Trans → Use → ℕ × ℕ → Type 0
+  EntersWith old left other next = (right : Trans) × (slice_get both.second.trans other.position ≡ Some right) × Enters both old left right next
+
+  pub enters_with_later : (old now : List (ℕ × ℕ)) (left right : Trans) (other : Use) (next : ℕ × ℕ) → slice_get both.second.trans other.position ≡ Some right → Keeps old now → EntersWith old left other next → Enters both now left right next
+  enters_with_later old now left right other next at keeps e =
+      let same = same_some e.0 right e.1 at in
+      enters_later old now left right next keeps (subst (λ t. Enters both old left t next) same e.2)
+
+  -- all that is entered by a use is entered with one of these
+  pub entered_by : (old now : List (ℕ × ℕ)) (left : Trans) (used : Use) (q : ℕ) (uses items : List Use) → IsUseOf both.first.trans used → slice_get both.first.trans used.position ≡ Some left → AreUsesOf both.second.trans uses →
+      ((other : Use) → Contains items other ↔ (Contains uses other × (other.slot ≡ (use_of q used.slot.sym used.slot.place 0).slot))) →
+      ((other : Use) (next : ℕ × ℕ) → Contains items other → EntersWith old left other next → Contains now next) → (next : ℕ × ℕ) → EntersBy both old used q next → Contains now next
+  entered_by old now left used q uses items is at are members marked next e =
+      let right = e.right in
+      let second = e.enters.second in
+      let position : slice_get both.second.trans second.0 ≡ Some right = slice_get-get_or both.second.trans second.0 right second.1 ∙ ap Some second.2 in
+      let other = use_of q used.slot.sym used.slot.place second.0 in
+      let sym_is : right.sym ≡ used.slot.sym = sym e.enters.same ∙ used_sym both.first.trans used e.left is e.at in
+      let has = (are other).1 (record { trans = right; at = position; is = record { sym = sym_is; state = e.there } }) in
+      marked other next ((members other).1 (has, refl)) (right, position, subst (λ t. Enters both old t right next) (same_some e.left left e.at at) e.enters)
+
+  -- all that is entered at a pair is entered by a use of its first state
+  pub entered_at : (old now : List (ℕ × ℕ)) (p q : ℕ) (uses items : List Use) → AreUsesOf both.first.trans uses → ((used : Use) → Contains items used ↔ (Contains uses used × (used.slot.state ≡ p))) →
+      ((used : Use) (next : ℕ × ℕ) → Contains items used → EntersBy both old used q next → Contains now next) → (next : ℕ × ℕ) → EntersAt both old (p, q) next → Contains now next
+  entered_at old now p q uses items are members marked next e =
+      let left = e.left in
+      let right = e.right in
+      let i = e.there.0 in
+      let long : i < min (length left.args) (length right.args) = omega (arith, e.there.1, length-zip left.args right.args) in
+      let pair : (get_or left.args i p, get_or right.args i q) ≡ (p, q) = sym (get_or-zip left.args right.args i (p, q) (omega arith) (omega arith)) ∙ e.there.2 in
+      let at_left : slice_get left.args i ≡ Some p = slice_get-get_or left.args i p (omega arith) ∙ ap (λ (x : ℕ × ℕ). Some x.0) pair in
+      let at_right : slice_get right.args i ≡ Some q = slice_get-get_or right.args i q (omega arith) ∙ ap (λ (x : ℕ × ℕ). Some x.1) pair in
+      let first = e.enters.first in
+      let position : slice_get both.first.trans first.0 ≡ Some left = slice_get-get_or both.first.trans first.0 left first.1 ∙ ap Some first.2 in
+      let used = use_of p left.sym i first.0 in
+      let has = (are used).1 (record { trans = left; at = position; is = record { sym = refl; state = at_left } }) in
+      marked used next ((members used).1 (has, refl)) (record { left = left; right = right; at = position; there = at_right; enters = e.enters })
 
   -- ---- the work list
 

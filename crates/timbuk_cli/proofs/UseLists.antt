@@ -28,10 +28,11 @@ HasUsesBelow old position trans k all = (used : Use) → Contains all used ↔ (
 abbrev pub HasUsesBefore : List Trans → ℕ → List Use → Type 0
 HasUsesBefore trans k all = (used : Use) → Contains all used ↔ (IsUseOf trans used × (used.position < k))
 
-abbrev use_of : ℕ → ℕ → ℕ → ℕ → Use
+-- a use of these parts
+abbrev pub use_of : ℕ → ℕ → ℕ → ℕ → Use
 use_of state sym place position = record { slot = record { state = state; sym = sym; place = place }; position = position }
 
-same_some : {X : Type 0} {o : Option X} (x y : X) → o ≡ Some x → o ≡ Some y → x ≡ y
+pub same_some : {X : Type 0} {o : Option X} (x y : X) → o ≡ Some x → o ≡ Some y → x ≡ y
 same_some x y e f = cc
 
 -- the use at the next place

@@ -133,7 +133,8 @@ impl<'a> Product<'a> {
         ensures second_sound { OnOk result (IsSound self.now.second) }
     {
         pairs.mark_firsts(self.first.eps_from(p), q)?;
-        pairs.mark_seconds(p, self.second.eps_from(q))
+        pairs.mark_seconds(p, self.second.eps_from(q))?;
+        Ok(())
     }
 
     /// Marks the pairs to which two transitions with the states at one place lead where the pairs of their arguments are
