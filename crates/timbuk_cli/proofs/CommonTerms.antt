@@ -1,8 +1,10 @@
 -- The pairs of states to which one ground term runs, as they are found.
 use Rattle.std.proofs.Common.{◌≡◌, ◌↔◌, ◌⊎◌, ℕ, suc, zero, ◌+◌, ◌*◌, ◌<◌, ◌≤◌, ◌==◌, min, Bool, true, false, List, [], ◌∷◌, ◌++◌, length, get_or, take, map, zip, Some, slice_get, All, Contains, IsTrue, Result, Ok, Err, IfOk, refl, sym, ap, subst, ◌∙◌, inl, inr, ⊎_elim, true≢false, length-append, mul-le-mul, arith}
-use Rattle.std.specs.List.{AllZip, AllByRecursion, IsDistinct}
-use Rattle.std.proofs.lemmas.List.{take_more, take_all, take-append-le}
-use Rattle.std.proofs.lemmas.List.Elements.{All-nil, All-cons, All-head, All-tail, All-weaker, All-contains, All-take, All-contains_itself, Contains-push_cases, Contains-get_or}
+use Rattle.std.specs.Bool.{MatchBool}
+use Rattle.std.specs.List.{AllZip, AllByRecursion, AllWithin, HoldsAt, IsDistinct}
+use Rattle.std.proofs.lemmas.Iterator.Search.{true_from_All}
+use Rattle.std.proofs.lemmas.List.{take_more, take_all, take-append-le, get_or_default}
+use Rattle.std.proofs.lemmas.List.Elements.{All-from_all_within, All-nil, All-cons, All-head, All-tail, All-weaker, All-contains, All-take, All-contains_itself, Contains-push_cases, Contains-get_or}
 use Rattle.std.proofs.lemmas.Option.{slice_get_within, slice_get-get_or, get_or_from_slice_get}
 use Rattle.std.proofs.lemmas.Slice.Zip.{get_or-zip, length-zip}
 use Rattle.ranked_terms.specs.Terms.{node, config_of}
@@ -17,15 +19,19 @@ use Rattle.ta_core.proofs.Keys.{all_from_members}
 use Rattle.ta_core.proofs.Members.{none, here, there, parts}
 use Rattle.ta_core.proofs.RunsLaws.{run_ends, run_of_app, zip_from_all}
 use Rattle.timbuk_cli.specs.Meeting.{Meets, HaveNoCommonTerm}
-use Rattle.timbuk_cli.specs.Products.{TwoAutomata, same_pair, Keeps, AreMarked, StepsTo, Enters, EntersBy, EntersAt, Starts, HasNoFinal}
+use Rattle.timbuk_cli.specs.Products.{TwoAutomata, same_pair, Keeps, AreMarked, StepsTo, Enters, EntersBy, EntersAt, Starts, AreNotBothFinal}
 use Rattle.timbuk_cli.specs.Uses.{IsUseOf, AreUsesOf}
 use Rattle.timbuk_cli.specs.declared.missing.uses.Use.{Use}
 use Rattle.timbuk_cli.proofs.MarkedPairs.{keeps_itself, keeps_on, still, Joins, Leads, few_pairs}
-use Rattle.timbuk_cli.proofs.UseLists.{use_of, same_some}
+use Rattle.timbuk_cli.proofs.UseLists.{use_of, same_some, used_sym}
 
 -- the item that a loop is at
 pub item_in : {X : Type 0} (items : List X) (k : ℕ) (x : X) → k < length items → x ≡ get_or items k x → Contains items x
 item_in items k x l is = subst (Contains items) (sym is) (Contains-get_or items k x l)
+
+-- it doesn't hang on the default
+pub get_or_same : {X : Type 0} (items : List X) (k : ℕ) (d : X) → k < length items → get_or items k d ≡ get_or items k (get_or items k d)
+get_or_same items k d l = sym (get_or_default items k (get_or items k d) d l)
 
 -- to both states of the pair, one term runs
 abbrev pub MeetsIn : TwoAutomata → ℕ × ℕ → Type 0
@@ -145,13 +151,6 @@ module _ (both : TwoAutomata) where
 
   -- ---- uses
 
-  -- the transition at a use's position
-  pub used_trans : (trans : List Trans) (used : Use) (t : Trans) → IsUseOf trans used → t ≡ get_or trans used.position t → slice_get trans used.position ≡ Some t
-  used_trans trans used t is e = slice_get-get_or trans used.position t (slice_get_within trans used.position is.trans is.at) ∙ ap Some (sym e)
-
-  pub used_sym : (trans : List Trans) (used : Use) (t : Trans) → IsUseOf trans used → slice_get trans used.position ≡ Some t → t.sym ≡ used.slot.sym
-  used_sym trans used t is e = ap (λ (t : Trans). t.sym) (same_some t is.trans e is.at) ∙ is.is.sym
-
   pub enters_by_later : (old now : List (ℕ × ℕ)) (used : Use) (q : ℕ) (next : ℕ × ℕ) → Keeps old now → EntersBy both old used q next → EntersBy both now used q next
   enters_by_later old now used q next keeps e = record { left = e.left; right = e.right; at = e.at; there = e.there; enters = enters_later old now e.left e.right next keeps e.enters }
 
@@ -184,10 +183,11 @@ module _ (both : TwoAutomata) where
       let left = e.left in
       let right = e.right in
       let i = e.there.0 in
-      let long : i < min (length left.args) (length right.args) = omega (arith, e.there.1, length-zip left.args right.args) in
-      let pair : (get_or left.args i p, get_or right.args i q) ≡ (p, q) = sym (get_or-zip left.args right.args i (p, q) (omega arith) (omega arith)) ∙ e.there.2 in
-      let at_left : slice_get left.args i ≡ Some p = slice_get-get_or left.args i p (omega arith) ∙ ap (λ (x : ℕ × ℕ). Some x.0) pair in
-      let at_right : slice_get right.args i ≡ Some q = slice_get-get_or right.args i q (omega arith) ∙ ap (λ (x : ℕ × ℕ). Some x.1) pair in
+      let in_left : i < length left.args = omega (arith, e.there.1, length-zip left.args right.args) in
+      let in_right : i < length right.args = omega (arith, e.there.1, length-zip left.args right.args) in
+      let pair : ◌≡◌ {A = ℕ × ℕ} (get_or left.args i p, get_or right.args i q) (p, q) = sym (get_or-zip left.args right.args i (p, q) in_left in_right) ∙ e.there.2 in
+      let at_left : slice_get left.args i ≡ Some p = slice_get-get_or left.args i p in_left ∙ ap (λ (x : ℕ × ℕ). Some x.0) pair in
+      let at_right : slice_get right.args i ≡ Some q = slice_get-get_or right.args i q in_right ∙ ap (λ (x : ℕ × ℕ). Some x.1) pair in
       let first = e.enters.first in
       let position : slice_get both.first.trans first.0 ≡ Some left = slice_get-get_or both.first.trans first.0 left first.1 ∙ ap Some first.2 in
       let used = use_of p left.sym i first.0 in
@@ -327,9 +327,16 @@ module _ (both : TwoAutomata) where
 
   -- ---- final states
 
-  pub misses_by : (pairs : List (ℕ × ℕ)) → ((pair : ℕ × ℕ) → Contains pairs pair ↔ MeetsIn both pair) → All (HasNoFinal both) pairs ↔ HaveNoCommonTerm both.first both.second
+  none_final : (pairs : List (ℕ × ℕ)) (r : Bool) → MatchBool r (AllWithin (AreNotBothFinal both) pairs 0 (length pairs)) ((k : ℕ) × (k < length pairs) × HoldsAt (λ p. ¬ AreNotBothFinal both p) pairs k) → IsTrue r → All (AreNotBothFinal both) pairs
+  none_final pairs true cases e = All-from_all_within (AreNotBothFinal both) pairs cases
+  none_final pairs false cases e = absurd (true≢false (sym e))
+
+  pub no_final_by : (pairs : List (ℕ × ℕ)) (r : Bool) → MatchBool r (AllWithin (AreNotBothFinal both) pairs 0 (length pairs)) ((k : ℕ) × (k < length pairs) × HoldsAt (λ p. ¬ AreNotBothFinal both p) pairs k) → IsTrue r ↔ All (AreNotBothFinal both) pairs
+  no_final_by pairs r cases = (none_final pairs r cases, true_from_All (AreNotBothFinal both) (λ p. ¬ AreNotBothFinal both p) r pairs (λ x h n. n h) cases)
+
+  pub misses_by : (pairs : List (ℕ × ℕ)) → ((pair : ℕ × ℕ) → Contains pairs pair ↔ MeetsIn both pair) → All (AreNotBothFinal both) pairs ↔ HaveNoCommonTerm both.first both.second
   misses_by pairs exact = (
-    λ all t a b. All-contains (HasNoFinal both) pairs (a.state, b.state) all ((exact (a.state, b.state)).1 (record { term = t; first = a.runs; second = b.runs })) a.final b.final,
+    λ all t a b. All-contains (AreNotBothFinal both) pairs (a.state, b.state) all ((exact (a.state, b.state)).1 (record { term = t; first = a.runs; second = b.runs })) a.final b.final,
     λ misses k d l first second.
         let m = (exact (get_or pairs k d)).0 (Contains-get_or pairs k d l) in
         misses m.term (record { state = (get_or pairs k d).0; runs = m.first; final = first }) (record { state = (get_or pairs k d).1; runs = m.second; final = second }),

@@ -150,3 +150,34 @@ stands_at slot used = (
 -- uses at a standing are those at the slot
 pub at_standing : (slot : Slot) (all part : List Use) → ((used : Use) → Contains part used ↔ (Contains all used × (standing slot used ≡ 1))) → (used : Use) → Contains part used ↔ (Contains all used × (used.slot ≡ slot))
 at_standing slot all part h used = (λ c. let b = (h used).0 c in (b.0, (stands_at slot used).0 b.1), λ b. (h used).1 (b.0, (stands_at slot used).1 b.1))
+
+-- what is known of one of the uses at a slot
+pub record IsUseAt (all : List Trans) (slot : Slot) (used : Use) : Type 0 where
+  pub is : IsUseOf all used
+  pub at : used.slot ≡ slot
+
+pub slot_use : (all : List Trans) (uses items : List Use) (slot : Slot) → AreUsesOf all uses → ((used : Use) → Contains items used ↔ (Contains uses used × (used.slot ≡ slot))) → (k : ℕ) (d : Use) → k < length items → IsUseAt all slot (get_or items k d)
+slot_use all uses items slot are members k d l =
+    let used = get_or items k d in
+    let has = (members used).0 (Contains-get_or items k d l) in
+    record { is = (are used).0 has.0; at = has.1 }
+
+-- the transition at a use's position, in a list that was read
+pub used_trans : (trans read : List Trans) (used : Use) (t : Trans) → read ≡ trans → IsUseOf trans used → t ≡ get_or read used.position t → slice_get trans used.position ≡ Some t
+used_trans trans read used t same is e =
+    slice_get-get_or trans used.position t (slice_get_within trans used.position is.trans is.at) ∙ ap Some (sym (e ∙ ap (λ (l : List Trans). get_or l used.position t) same))
+
+-- it is one of the list, and has the use's symbol
+pub used_in : (trans : List Trans) (used : Use) (t : Trans) → slice_get trans used.position ≡ Some t → Contains trans t
+used_in trans used t at = subst (Contains trans) (get_or_from_slice_get trans used.position t t at) (Contains-get_or trans used.position t (slice_get_within trans used.position t at))
+
+pub used_sym : (trans : List Trans) (used : Use) (t : Trans) → IsUseOf trans used → slice_get trans used.position ≡ Some t → t.sym ≡ used.slot.sym
+used_sym trans used t is e = ap (λ (t : Trans). t.sym) (same_some t is.trans e is.at) ∙ is.is.sym
+
+-- it stands before the end of the list that was read
+pub used_within : (trans read : List Trans) (used : Use) → read ≡ trans → IsUseOf trans used → used.position < length read
+used_within trans read used same is = subst (λ (l : List Trans). used.position < length l) (sym same) (slice_get_within trans used.position is.trans is.at)
+
+-- transitions at uses of one symbol have it both
+pub same_sym : (lefts rights : List Trans) (used other : Use) (left right : Trans) → IsUseOf lefts used → IsUseOf rights other → slice_get lefts used.position ≡ Some left → slice_get rights other.position ≡ Some right → other.slot.sym ≡ used.slot.sym → left.sym ≡ right.sym
+same_sym lefts rights used other left right is_used is_other at_left at_right same = used_sym lefts used left is_used at_left ∙ sym (used_sym rights other right is_other at_right ∙ same)

@@ -57,5 +57,5 @@ pub record Starts (both : TwoAutomata) (next : ℕ × ℕ) : Type 0 where
   pub enters : Enters both [] left right next
 
 -- not both states are final
-abbrev pub HasNoFinal : TwoAutomata → ℕ × ℕ → Type 0
-HasNoFinal both pair = Contains both.first.finals pair.0 → Contains both.second.finals pair.1 → ⊥
+abbrev pub AreNotBothFinal : TwoAutomata → ℕ × ℕ → Type 0
+AreNotBothFinal both pair = Contains both.first.finals pair.0 → Contains both.second.finals pair.1 → ⊥

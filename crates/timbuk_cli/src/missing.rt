@@ -12,7 +12,7 @@ ghost use Rattle.std.specs.Prelude.{◌≡◌, ◌↔◌, ℕ, IsTrue, IfOk, OnO
 ghost use Rattle.ta_core.specs.TreeAutomaton.{IsSound};
 ghost use Rattle.ta_core.specs.declared.trans.Trans.{Trans as Transition};
 ghost use Rattle.timbuk_cli.specs.Meeting.{Meets, HaveNoCommonTerm};
-ghost use Rattle.timbuk_cli.specs.Products.{Keeps, StepsTo, Enters, EntersBy, EntersAt, Starts, HasNoFinal};
+ghost use Rattle.timbuk_cli.specs.Products.{Keeps, StepsTo, Enters, EntersBy, EntersAt, Starts, AreNotBothFinal};
 ghost use Rattle.timbuk_cli.specs.Uses.{IsUseOf};
 
 mod pairs;
@@ -34,7 +34,10 @@ pub(crate) fn have_no_common_term(
 {
     let product = Product::new(alloc, first, second)?;
     let pairs = product.meeting_pairs(alloc)?;
-    Ok(product.has_no_final(pairs.as_slice()))
+    Ok(pairs
+        .as_slice()
+        .iter()
+        .all(|(p, q)| product.are_not_both_final(*p, *q)))
 }
 
 /// Two automata, with the uses of their states. Contracts see the automata.
@@ -188,13 +191,11 @@ impl<'a> Product<'a> {
         Ok(())
     }
 
-    /// Whether no pair has a final state of each automaton.
-    fn has_no_final(&self, pairs: &[(u32, u32)]) -> bool
-        ensures { IsTrue result ↔ All (HasNoFinal self.now) pairs.now }
+    /// Whether not both states are final.
+    fn are_not_both_final(&self, p: u32, q: u32) -> bool
+        ensures { IsTrue result ↔ AreNotBothFinal self.now (p, q) }
     {
-        pairs
-            .iter()
-            .all(|(p, q)| !is_final(self.first, *p) || !is_final(self.second, *q))
+        !is_final(self.first, p) || !is_final(self.second, q)
     }
 }
 
