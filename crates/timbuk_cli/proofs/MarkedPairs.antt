@@ -1,5 +1,5 @@
 -- Lists of marked pairs, which grow at their ends.
-use Rattle.std.proofs.Common.{◌≡◌, ◌↔◌, ◌⊎◌, ℕ, suc, zero, ◌+◌, ◌*◌, ◌<◌, ◌≤◌, ◌==◌, ◌&&◌, Bool, true, false, IsTrue, List, [], ◌∷◌, ◌++◌, length, get_or, take, map, zip, All, Contains, refl, sym, ap, subst, ◌∙◌, inl, inr, ⊎_elim, true≢false, append_assoc, append-nil, length-append, suc-mul, zero-mul, arith}
+use Rattle.std.proofs.Common.{◌≡◌, ◌↔◌, ◌⊎◌, ℕ, suc, zero, ◌+◌, ◌*◌, ◌<◌, ◌≤◌, ◌==◌, ◌&&◌, Bool, true, false, IsTrue, List, [], ◌∷◌, ◌++◌, length, get_or, take, map, zip, Some, None, slice_get, is_some, All, Contains, refl, sym, ap, subst, ◌∙◌, inl, inr, ⊎_elim, true≢false, append_assoc, append-nil, length-append, suc-mul, zero-mul, arith}
 use Rattle.std.specs.Bool.{MatchBool}
 use Rattle.std.specs.Cmp.{IsEquivalence}
 use Rattle.std.specs.List.{AllWithin, HoldsAt, IsDistinct, list_any, range_with_len}
@@ -11,6 +11,7 @@ use Rattle.std.proofs.lemmas.List.Elements.{All-from_all_within, All-contains, C
 use Rattle.std.proofs.lemmas.List.FromFn.{get_or-range_with_len, length-range_with_len}
 use Rattle.std.proofs.lemmas.Map.Made.{length-le_from_is_member}
 use Rattle.std.proofs.lemmas.Map.Views.{Contains-from_any, list_any-from_Contains, exact_unsigned_eq}
+use Rattle.std.proofs.lemmas.Option.{slice_get-get_or}
 use Rattle.indexmap.specs.IndexSet.{insert_key}
 use Rattle.timbuk_cli.specs.Products.{same_pair, Keeps, AreMarked}
 
@@ -107,6 +108,11 @@ module _ (pairs : List (ℕ × ℕ)) (ps qs : List ℕ) (r : Bool)
     λ e. record { count = count; each = each_marked r cases e },
     λ marked. true_from_All (Contains pairs) (λ p. ¬ Contains pairs p) r (zip ps qs) (λ x h n. n h) cases marked.each,
   )
+
+-- ---- where the list ends
+
+pub past_end : (pairs : List (ℕ × ℕ)) (at : ℕ) → slice_get pairs at ≡ None → length pairs ≤ at
+past_end pairs at e = ⊎_elim (λ l. absurd (true≢false (ap is_some (sym (slice_get-get_or pairs at (0, 0) l) ∙ e)))) (λ l. l) (cases_lt at (length pairs))
 
 -- ---- how many there are
 
