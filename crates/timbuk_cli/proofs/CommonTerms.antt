@@ -1,5 +1,5 @@
 -- The pairs of states to which one ground term runs, as they are found.
-use Rattle.std.proofs.Common.{◌≡◌, ◌↔◌, ◌⊎◌, ℕ, suc, zero, ◌+◌, ◌*◌, ◌<◌, ◌≤◌, ◌==◌, min, Bool, true, false, List, [], ◌∷◌, ◌++◌, length, get_or, take, map, zip, Some, slice_get, All, Contains, IsTrue, Result, Ok, Err, IfOk, refl, sym, ap, subst, ◌∙◌, inl, inr, ⊎_elim, true≢false, length-append, mul-le-mul, arith}
+use Rattle.std.proofs.Common.{◌≡◌, ◌↔◌, ◌⊎◌, ℕ, suc, ◌+◌, ◌*◌, ◌<◌, ◌≤◌, ◌==◌, Bool, true, false, List, [], ◌∷◌, ◌++◌, length, get_or, take, map, zip, Some, slice_get, All, Contains, IsTrue, refl, sym, ap, subst, ◌∙◌, inl, inr, ⊎_elim, true≢false, length-append, mul-le-mul, arith}
 use Rattle.std.specs.Bool.{MatchBool}
 use Rattle.std.specs.List.{AllZip, AllByRecursion, AllWithin, HoldsAt, IsDistinct}
 use Rattle.std.proofs.lemmas.Iterator.Search.{true_from_All}
@@ -9,20 +9,17 @@ use Rattle.std.proofs.lemmas.Option.{slice_get_within, slice_get-get_or, get_or_
 use Rattle.std.proofs.lemmas.Slice.Zip.{get_or-zip, length-zip}
 use Rattle.ranked_terms.specs.Terms.{node, config_of}
 use Rattle.ranked_terms.specs.declared.term.Term.{Term}
-use Rattle.ranked_terms.specs.declared.term.Config.{Config, App}
 use Rattle.ranked_terms.proofs.TermLaws.{config_node, term_induction}
-use Rattle.ta_core.specs.TreeAutomaton.{TreeAutomaton, IsSound, trans_of}
+use Rattle.ta_core.specs.TreeAutomaton.{IsSound, trans_of}
 use Rattle.ta_core.specs.declared.trans.Trans.{Trans}
 use Rattle.ta_core.specs.Runs.{Runs, RunsAll, Reaches}
-use Rattle.ta_core.specs.Languages.{Accepts}
-use Rattle.ta_core.proofs.Keys.{all_from_members}
-use Rattle.ta_core.proofs.Members.{none, here, there, parts}
+use Rattle.ta_core.proofs.Members.{none, here, there}
 use Rattle.ta_core.proofs.RunsLaws.{run_ends, run_of_app, zip_from_all}
 use Rattle.timbuk_cli.specs.Meeting.{Meets, HaveNoCommonTerm}
-use Rattle.timbuk_cli.specs.Products.{TwoAutomata, same_pair, Keeps, AreMarked, StepsTo, Enters, EntersBy, EntersAt, Starts, AreNotBothFinal}
+use Rattle.timbuk_cli.specs.Products.{TwoAutomata, same_pair, Keeps, AreMarked, StepsTo, Enters, EntersBy, EntersAt, AreNotBothFinal}
 use Rattle.timbuk_cli.specs.Uses.{IsUseOf, AreUsesOf}
 use Rattle.timbuk_cli.specs.declared.missing.uses.Use.{Use}
-use Rattle.timbuk_cli.proofs.MarkedPairs.{keeps_itself, keeps_on, still, Joins, Leads, few_pairs}
+use Rattle.timbuk_cli.proofs.MarkedPairs.{keeps_on, still, Joins, Leads, few_pairs}
 use Rattle.timbuk_cli.proofs.UseLists.{use_of, same_some, used_sym}
 
 -- the item that a loop is at
@@ -93,9 +90,6 @@ module _ (both : TwoAutomata) where
     pub marked : (x : X) (next : ℕ × ℕ) → Contains done x → P x next → Contains now next
 
   module _ {X : Type 0} (P : X → ℕ × ℕ → Type 0) (old : List (ℕ × ℕ)) where
-    pub marking_starts : All (MeetsIn both) old → IsMarking P old [] old
-    marking_starts all = record { meets = all; kept = keeps_itself old; marked = λ x next i p. absurd (none x i) }
-
     pub marking_more : (items : List X) (k : ℕ) (x : X) (now new : List (ℕ × ℕ)) → k < length items → x ≡ get_or items k x → IsMarking P old (take k items) now →
         All (MeetsIn both) new → Keeps now new → ((next : ℕ × ℕ) → P x next → Contains new next) → IsMarking P old (take (k + 1) items) new
     marking_more items k x now new l is m meets keeps marks = record {
@@ -202,14 +196,6 @@ module _ (both : TwoAutomata) where
     pub meets : All (MeetsIn both) pairs
     pub steps : (pair next : ℕ × ℕ) → Contains (take at pairs) pair → StepsTo both pair next → Contains pairs next
     pub enters : (left right : Trans) (next : ℕ × ℕ) → Enters both (take at pairs) left right next → Contains pairs next
-
-  pub following_starts : (pairs : List (ℕ × ℕ)) → All (MeetsIn both) pairs → ((next : ℕ × ℕ) → Starts both next → Contains pairs next) → IsFollowing 0 pairs
-  following_starts pairs meets starts = record {
-    within = omega arith;
-    meets = meets;
-    steps = λ pair next i s. absurd (none pair i);
-    enters = λ left right next e. starts next (record { left = left; right = right; enters = e });
-  }
 
   -- pairs of which each is in a list or this one
   all_or_one : (done : List (ℕ × ℕ)) (pair : ℕ × ℕ) (xs : List (ℕ × ℕ)) → All (Contains (done ++ pair ∷ [])) xs → All (Contains done) xs ⊎ Contains xs pair

@@ -1,5 +1,5 @@
 -- Lists of marked pairs, which grow at their ends.
-use Rattle.std.proofs.Common.{◌≡◌, ◌↔◌, ◌⊎◌, ℕ, suc, zero, ◌+◌, ◌*◌, ◌<◌, ◌≤◌, ◌==◌, ◌&&◌, Bool, true, false, IsTrue, List, [], ◌∷◌, ◌++◌, length, get_or, take, map, zip, Some, None, slice_get, is_some, All, Contains, refl, sym, ap, subst, ◌∙◌, inl, inr, ⊎_elim, true≢false, append_assoc, append-nil, length-append, suc-mul, zero-mul, arith}
+use Rattle.std.proofs.Common.{◌≡◌, ◌↔◌, ◌⊎◌, ℕ, suc, zero, ◌+◌, ◌*◌, ◌<◌, ◌≤◌, ◌==◌, ◌&&◌, Bool, true, false, IsTrue, List, [], ◌∷◌, ◌++◌, length, get_or, take, map, zip, None, slice_get, is_some, All, Contains, refl, sym, ap, subst, ◌∙◌, inl, inr, ⊎_elim, true≢false, append_assoc, append-nil, length-append, suc-mul, zero-mul, arith}
 use Rattle.std.specs.Bool.{MatchBool}
 use Rattle.std.specs.Cmp.{IsEquivalence}
 use Rattle.std.specs.List.{AllWithin, HoldsAt, IsDistinct, list_any, range_with_len}
@@ -7,7 +7,7 @@ use Rattle.std.proofs.lemmas.Bool.{cases_lt}
 use Rattle.std.proofs.lemmas.Cmp.{nat_eq_equiv, and_equiv, on_equiv}
 use Rattle.std.proofs.lemmas.Iterator.Search.{true_from_All}
 use Rattle.std.proofs.lemmas.List.{take_more, length-map, get_or-map}
-use Rattle.std.proofs.lemmas.List.Elements.{All-from_all_within, All-contains, Contains-append_left, Contains-append_right, Contains-push, Contains-push_cases, Contains-get_or}
+use Rattle.std.proofs.lemmas.List.Elements.{All-from_all_within, Contains-append_left, Contains-append_right, Contains-push, Contains-push_cases}
 use Rattle.std.proofs.lemmas.List.FromFn.{get_or-range_with_len, length-range_with_len}
 use Rattle.std.proofs.lemmas.Map.Made.{length-le_from_is_member}
 use Rattle.std.proofs.lemmas.Map.Views.{Contains-from_any, list_any-from_Contains, exact_unsigned_eq}

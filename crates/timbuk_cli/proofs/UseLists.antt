@@ -1,10 +1,10 @@
 -- Lists of uses: how they are made, and what is at a key of one that ascends.
-use Rattle.std.proofs.Common.{◌≡◌, ◌↔◌, ◌⊎◌, ℕ, ◌+◌, ◌<◌, ◌≤◌, Bool, true, false, ltb, leb, List, [], ◌∷◌, ◌++◌, length, get_or, Option, Some, slice_get, Contains, refl, sym, ap, subst, ◌∙◌, inl, inr, ⊎_elim, arith}
+use Rattle.std.proofs.Common.{◌≡◌, ◌↔◌, ◌⊎◌, ℕ, ◌+◌, ◌<◌, ◌≤◌, false, ltb, leb, List, [], ◌∷◌, ◌++◌, length, get_or, Option, Some, slice_get, Contains, refl, sym, ap, subst, ◌∙◌, inl, inr, ⊎_elim, arith}
 use Rattle.std.specs.declared.cmp.Ordering.{Ordering}
 use Rattle.std.specs.declared.cmp.Ordering.TheVariants.{Less, Equal, Greater}
 use Rattle.std.specs.Ordering.{nat_cmp, ordering_then, ordering_index, is_lt, is_le}
 use Rattle.std.specs.Cmp.{IsTotalOrder}
-use Rattle.std.specs.List.Sorted.{IsNonDecreasingBy, IsSorted, IsPermutation}
+use Rattle.std.specs.List.Sorted.{IsNonDecreasingBy, IsPermutation}
 use Rattle.std.proofs.lemmas.Bool.{cases_lt}
 use Rattle.std.proofs.lemmas.Cmp.{nat_cmp_total, on_total, then_total, tied_itself}
 use Rattle.std.proofs.lemmas.List.Elements.{Contains-append_left, Contains-push, Contains-push_cases, Contains-get_or}
@@ -12,7 +12,6 @@ use Rattle.std.proofs.lemmas.List.Sorted.{searchable_from_sorted, IsNonDecreasin
 use Rattle.std.proofs.lemmas.Map.Lookups.{CmpEqualImpliesEq, exact_unsigned, exact_pairs}
 use Rattle.std.proofs.lemmas.Option.{slice_get_within, slice_get-get_or, get_or_from_slice_get}
 use Rattle.ta_core.specs.declared.trans.Trans.{Trans}
-use Rattle.ta_core.proofs.Members.{none}
 use Rattle.timbuk_cli.specs.declared.missing.uses.Slot.{Slot}
 use Rattle.timbuk_cli.specs.declared.missing.uses.Use.{Use}
 use Rattle.timbuk_cli.specs.Slots.{slot_cmp, AscendBySlot}
@@ -98,11 +97,7 @@ first_not_less Less s e = e
 first_not_less Equal s e = refl
 first_not_less Greater s e = refl
 
--- uses in order, by slot and then by position, ascend by slot
-pub ascend_by_slot : (uses : List Use) → IsSorted (λ (a b : Use). ordering_then (slot_cmp a.slot b.slot) (nat_cmp a.position b.position)) uses → AscendBySlot uses
-ascend_by_slot uses s k d low high = first_not_less _ _ (s k d low high)
-
--- they ascend by state
+-- uses that ascend by slot do so by state
 pub states_ascend : (uses : List Use) → AscendBySlot uses → IsNonDecreasingBy (λ (used : Use). used.slot.state) uses
 states_ascend uses s = IsNonDecreasingBy-from_sort (λ (used : Use). used.slot.state) uses (λ k d low high. first_not_less _ _ (s k d low high))
 

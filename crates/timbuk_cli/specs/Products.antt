@@ -35,22 +35,22 @@ pub record Enters (both : TwoAutomata) (pairs : List (ℕ × ℕ)) (left right :
   pub marked : AreMarked pairs left.args right.args
   pub leads : next ≡ (left.to, right.to)
 
--- the same, with the state at the place of a transition's use in the first automaton and this state in the second
-pub record EntersBy (both : TwoAutomata) (pairs : List (ℕ × ℕ)) (used : Use) (q : ℕ) (next : ℕ × ℕ) : Type 0 where
+-- two such transitions: that of the use, and one with this state at the same place
+pub record EntersBy (both : TwoAutomata) (pairs : List (ℕ × ℕ)) (used : Use) (second : ℕ) (next : ℕ × ℕ) : Type 0 where
   pub left : Trans
   pub right : Trans
   pub at : slice_get both.first.trans used.position ≡ Some left
-  pub there : slice_get right.args used.slot.place ≡ Some q
+  pub there : slice_get right.args used.slot.place ≡ Some second
   pub enters : Enters both pairs left right next
 
--- the same, with the pair at some place
+-- two such transitions, with the pair among the pairs of their arguments
 pub record EntersAt (both : TwoAutomata) (pairs : List (ℕ × ℕ)) (pair next : ℕ × ℕ) : Type 0 where
   pub left : Trans
   pub right : Trans
   pub there : Contains (zip left.args right.args) pair
   pub enters : Enters both pairs left right next
 
--- the same at two constants
+-- two such transitions where no pair is marked, which are those of a constant
 pub record Starts (both : TwoAutomata) (next : ℕ × ℕ) : Type 0 where
   pub left : Trans
   pub right : Trans

@@ -1,5 +1,5 @@
 -- Where states stand among the arguments of transitions. These serve private contracts alone.
-use Rattle.std.specs.Prelude.{◌≡◌, ◌↔◌, ℕ, List, Some, slice_get, Contains}
+use Rattle.std.specs.Prelude.{◌≡◌, ◌↔◌, List, Some, slice_get, Contains}
 use Rattle.ta_core.specs.declared.trans.Trans.{Trans}
 use Rattle.timbuk_cli.specs.declared.missing.uses.Use.{Use}
 

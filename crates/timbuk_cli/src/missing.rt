@@ -37,7 +37,7 @@ pub(crate) fn have_no_common_term(
     Ok(pairs
         .as_slice()
         .iter()
-        .all(|(p, q)| product.are_not_both_final(*p, *q)))
+        .all(|(first, second)| product.are_not_both_final(*first, *second)))
 }
 
 /// Two automata, with the uses of their states. Contracts see the automata.
@@ -86,15 +86,15 @@ impl<'a> Product<'a> {
         let mut pairs = Pairs::new(alloc);
         self.mark_constants(&mut pairs)?;
         let mut at = 0;
-        while let Some((p, q)) = pairs.get(at) {
-            self.follow_epsilons(p, q, &mut pairs)?;
-            self.follow_transitions(p, q, &mut pairs)?;
+        while let Some((first, second)) = pairs.get(at) {
+            self.follow_epsilons(first, second, &mut pairs)?;
+            self.follow_transitions(first, second, &mut pairs)?;
             at += 1;
         }
         Ok(pairs)
     }
 
-    /// Marks the pairs to which one constant runs by a transition of each automaton. The only error is want of memory.
+    /// Marks the pairs to which a constant runs by one transition of each automaton. The only error is want of memory.
     fn mark_constants(&self, pairs: &mut Pairs) -> Result<(), AllocError>
         requires { All (Meets self.now.first self.now.second) pairs.old }
         ensures meets { OnOk result (All (Meets self.now.first self.now.second) pairs.new) }
@@ -109,8 +109,8 @@ impl<'a> Product<'a> {
         Ok(())
     }
 
-    /// Marks the pairs to which the constant runs by its transition of the first automaton and one of the second. The
-    /// only error is want of memory.
+    /// Marks the pairs to which the transition leads together with one of the second automaton that has the same symbol,
+    /// where all pairs of their arguments are marked, as at a constant. The only error is want of memory.
     fn mark_constant(&self, left: &Trans, pairs: &mut Pairs) -> Result<(), AllocError>
         requires has { Contains self.now.first.trans left.now }
         requires meets { All (Meets self.now.first self.now.second) pairs.old }
@@ -124,48 +124,49 @@ impl<'a> Product<'a> {
         Ok(())
     }
 
-    /// Marks the pairs to which an epsilon transition of either automaton leads from the states. The only error is want of
-    /// memory.
-    fn follow_epsilons(&self, p: u32, q: u32, pairs: &mut Pairs) -> Result<(), AllocError>
+    /// Marks the pairs to which an epsilon transition of either automaton leads from the marked pair. The only error is want
+    /// of memory.
+    fn follow_epsilons(&self, first: u32, second: u32, pairs: &mut Pairs) -> Result<(), AllocError>
         requires meets { All (Meets self.now.first self.now.second) pairs.old }
-        requires marked { Contains pairs.old (p, q) }
+        requires marked { Contains pairs.old (first, second) }
         ensures meets { OnOk result (All (Meets self.now.first self.now.second) pairs.new) }
         ensures kept { OnOk result (Keeps pairs.old pairs.new) }
-        ensures marked { OnOk result ((next : ℕ × ℕ) → StepsTo self.now (p, q) next → Contains pairs.new next) }
+        ensures marked { OnOk result ((next : ℕ × ℕ) → StepsTo self.now (first, second) next → Contains pairs.new next) }
         ensures first_sound { OnOk result (IsSound self.now.first) }
         ensures second_sound { OnOk result (IsSound self.now.second) }
     {
-        pairs.mark_firsts(self.first.eps_from(p), q)?;
-        pairs.mark_seconds(p, self.second.eps_from(q))?;
+        pairs.mark_firsts(self.first.eps_from(first), second)?;
+        pairs.mark_seconds(first, self.second.eps_from(second))?;
         Ok(())
     }
 
-    /// Marks the pairs to which two transitions with the states at one place lead where the pairs of their arguments are
-    /// marked. The only error is want of memory.
-    fn follow_transitions(&self, p: u32, q: u32, pairs: &mut Pairs) -> Result<(), AllocError>
+    /// Marks the pairs to which two transitions of one symbol lead that have the two states at one place, where all pairs of
+    /// their arguments are marked. The only error is want of memory.
+    fn follow_transitions(&self, first: u32, second: u32, pairs: &mut Pairs) -> Result<(), AllocError>
         requires { All (Meets self.now.first self.now.second) pairs.old }
         ensures meets { OnOk result (All (Meets self.now.first self.now.second) pairs.new) }
         ensures kept { OnOk result (Keeps pairs.old pairs.new) }
-        ensures marked { OnOk result ((next : ℕ × ℕ) → EntersAt self.now pairs.old (p, q) next → Contains pairs.new next) }
+        ensures marked { OnOk result ((next : ℕ × ℕ) → EntersAt self.now pairs.old (first, second) next → Contains pairs.new next) }
     {
-        for used in self.first_uses.of_state(p) {
-            self.follow_use(*used, q, pairs)?;
+        for used in self.first_uses.of_state(first) {
+            self.follow_use(*used, second, pairs)?;
         }
         Ok(())
     }
 
-    /// The same for one use of the first state. The only error is want of memory.
-    fn follow_use(&self, used: Use, q: u32, pairs: &mut Pairs) -> Result<(), AllocError>
+    /// Marks the pairs to which the transition of this use leads together with one of the second automaton that has the
+    /// state at the same place, where all pairs of their arguments are marked. The only error is want of memory.
+    fn follow_use(&self, used: Use, second: u32, pairs: &mut Pairs) -> Result<(), AllocError>
         requires used { IsUseOf self.now.first.trans used }
         requires meets { All (Meets self.now.first self.now.second) pairs.old }
         ensures meets { OnOk result (All (Meets self.now.first self.now.second) pairs.new) }
         ensures kept { OnOk result (Keeps pairs.old pairs.new) }
-        ensures marked { OnOk result ((next : ℕ × ℕ) → EntersBy self.now pairs.old used q next → Contains pairs.new next) }
+        ensures marked { OnOk result ((next : ℕ × ℕ) → EntersBy self.now pairs.old used second next → Contains pairs.new next) }
     {
         let left = &self.first.trans()[used.position];
         let rights = self.second.trans();
         let slot = Slot {
-            state: q,
+            state: second,
             ..used.slot
         };
         for other in self.second_uses.at_slot(slot) {
@@ -174,7 +175,7 @@ impl<'a> Product<'a> {
         Ok(())
     }
 
-    /// Marks the pair to which the two transitions of one symbol lead, where the pairs of their arguments are marked. The
+    /// Marks the pair to which the two transitions of one symbol lead, where all pairs of their arguments are marked. The
     /// only error is want of memory.
     fn enter(&self, left: &Trans, right: &Trans, pairs: &mut Pairs) -> Result<(), AllocError>
         requires first { Contains self.now.first.trans left.now }
@@ -192,10 +193,10 @@ impl<'a> Product<'a> {
     }
 
     /// Whether not both states are final.
-    fn are_not_both_final(&self, p: u32, q: u32) -> bool
-        ensures { IsTrue result ↔ AreNotBothFinal self.now (p, q) }
+    fn are_not_both_final(&self, first: u32, second: u32) -> bool
+        ensures { IsTrue result ↔ AreNotBothFinal self.now (first, second) }
     {
-        !is_final(self.first, p) || !is_final(self.second, q)
+        !is_final(self.first, first) || !is_final(self.second, second)
     }
 }
 

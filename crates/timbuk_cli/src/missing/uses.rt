@@ -8,7 +8,7 @@ use std::marker::Model;
 use ta_core::Trans;
 
 /// A state as the argument of a symbol at a place. Slots are ordered by state, then by symbol, then by place.
-#[derive(Debug, Clone, Copy, PartialEq, Eq, PartialOrd, Ord)]
+#[derive(Clone, Copy, PartialEq, Eq, PartialOrd, Ord)]
 pub(super) struct Slot {
     /// The state.
     pub(super) state: u32,
@@ -19,7 +19,7 @@ pub(super) struct Slot {
 }
 
 /// A state's use as an argument of a transition.
-#[derive(Debug, Clone, Copy, PartialEq, Eq, PartialOrd, Ord)]
+#[derive(Clone, Copy, PartialEq, Eq, PartialOrd, Ord)]
 pub(super) struct Use {
     /// The state, the transition's symbol and the place of the argument.
     pub(super) slot: Slot,

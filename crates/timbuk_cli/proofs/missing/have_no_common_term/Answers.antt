@@ -1,4 +1,4 @@
-use Rattle.std.proofs.Common.{◌↔◌, ℕ, IsTrue, subst, rules, tests}
+use Rattle.std.proofs.Common.{◌↔◌, IsTrue, subst, rules, tests}
 use Rattle.std.proofs.lemmas.Iterator.{cases_from_all, YieldsList-from_slice}
 use Rattle.timbuk_cli.specs.Meeting.{HaveNoCommonTerm}
 use Rattle.timbuk_cli.specs.Products.{TwoAutomata, AreNotBothFinal}

@@ -1,5 +1,5 @@
-use Rattle.std.proofs.Common.{◌≡◌, ℕ, List, refl, subst, inr}
-use Rattle.timbuk_cli.specs.Products.{AreMarked, Enters}
+use Rattle.std.proofs.Common.{◌≡◌, ℕ, List, subst, inr}
+use Rattle.timbuk_cli.specs.Products.{AreMarked}
 use Rattle.timbuk_cli.proofs.CommonTerms.{meets_more, enters_meet}
 use Rattle.timbuk_cli.proofs.missing.Product.enter.Goals as goal
 

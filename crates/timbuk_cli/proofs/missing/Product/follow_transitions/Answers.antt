@@ -1,4 +1,4 @@
-use Rattle.std.proofs.Common.{◌≡◌, ℕ, get_or, sym, subst}
+use Rattle.std.proofs.Common.{ℕ, get_or, subst}
 use Rattle.std.proofs.lemmas.List.Elements.{Contains-get_or}
 use Rattle.timbuk_cli.specs.Products.{TwoAutomata, EntersBy}
 use Rattle.timbuk_cli.specs.Uses.{AreUsesOf}
@@ -22,15 +22,15 @@ loop-used-preserved c =
     let k = c.loop-used.used-index in
     let used = get_or items k (use_of 0 0 0 0) in
     let marked = c.in_ok-follow_use.ensures in
-    marking_more both (λ (used : Use) (next : ℕ × ℕ). EntersBy both old used c.args.q next) old items k used now c.follow_use.new.pairs c.loop-used-test.true (get_or_same items k (use_of 0 0 0 0) c.loop-used-test.true) c.loop-used.invariant
-    marked.meets marked.kept (λ next e. marked.marked next (enters_by_later both old now used c.args.q next c.loop-used.invariant.kept e))
+    marking_more both (λ (used : Use) (next : ℕ × ℕ). EntersBy both old used c.args.second next) old items k used now c.follow_use.new.pairs c.loop-used-test.true (get_or_same items k (use_of 0 0 0 0) c.loop-used-test.true) c.loop-used.invariant
+    marked.meets marked.kept (λ next e. marked.marked next (enters_by_later both old now used c.args.second next c.loop-used.invariant.kept e))
 
 pub returns-clause-marked : goal.returns-clause-marked
 returns-clause-marked c =
     let both = c.args.self.now in
     let old = c.args.pairs.now in
     let items = c.of_state-used-items.result.now in
-    let all = marking_ends both (λ (used : Use) (next : ℕ × ℕ). EntersBy both old used c.args.q next) old items c.loop-used.used-index c.loop-used.pairs c.loop-used-test.false c.loop-used.invariant in
-    entered_at both old c.loop-used.pairs c.args.p c.args.q c.self.inside.first_uses items
+    let all = marking_ends both (λ (used : Use) (next : ℕ × ℕ). EntersBy both old used c.args.second next) old items c.loop-used.used-index c.loop-used.pairs c.loop-used-test.false c.loop-used.invariant in
+    entered_at both old c.loop-used.pairs c.args.first c.args.second c.self.inside.first_uses items
     (subst (λ (both : TwoAutomata). AreUsesOf both.first.trans c.self.inside.first_uses) c.self.view_is c.self.invariant.0)
     c.of_state-used-items.ensures all.marked

@@ -78,4 +78,4 @@ returns-clause-marked c =
     let at = subst (λ (both : TwoAutomata). slice_get both.first.trans c.args.used.position ≡ Some left) c.self.view_is (used_trans lefts c.trans.result.now c.args.used left c.trans.ensures.value used c.index-trans-used.is) in
     let are = subst (λ (both : TwoAutomata). AreUsesOf both.second.trans c.self.inside.second_uses) c.self.view_is c.self.invariant.1 in
     let all = marking_ends both (λ (other : Use) (next : ℕ × ℕ). EntersWith both old left other next) old items c.loop-other.other-index c.loop-other.pairs c.loop-other-test.false c.loop-other.invariant in
-    entered_by both old c.loop-other.pairs left c.args.used c.args.q c.self.inside.second_uses items c.requires.used at are c.at_slot-other-items.ensures all.marked
+    entered_by both old c.loop-other.pairs left c.args.used c.args.second c.self.inside.second_uses items c.requires.used at are c.at_slot-other-items.ensures all.marked

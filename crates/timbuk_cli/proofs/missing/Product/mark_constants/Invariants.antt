@@ -1,4 +1,4 @@
-use Rattle.std.proofs.Common.{◌≡◌, [], take}
+use Rattle.std.proofs.Common.{[], take}
 use Rattle.timbuk_cli.specs.Products.{Enters}
 use Rattle.ta_core.specs.declared.trans.Trans.{Trans}
 use Rattle.timbuk_cli.proofs.CommonTerms.{IsMarking}

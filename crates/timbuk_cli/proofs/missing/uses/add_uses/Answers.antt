@@ -1,4 +1,4 @@
-use Rattle.std.proofs.Common.{◌≡◌, Some, slice_get, sym, ap, subst, ◌∙◌, arith}
+use Rattle.std.proofs.Common.{slice_get, sym, ap, ◌∙◌}
 use Rattle.std.proofs.lemmas.Option.{slice_get-get_or}
 use Rattle.timbuk_cli.proofs.UseLists.{uses_more, uses_end}
 use Rattle.timbuk_cli.proofs.missing.uses.add_uses.Goals as goal

@@ -1,4 +1,4 @@
-use Rattle.std.proofs.Common.{ℕ, Contains, eqb-true, rules}
+use Rattle.std.proofs.Common.{ℕ, Contains, rules}
 use Rattle.std.proofs.lemmas.Iterator.{cases_from_all, YieldsList-from_slice, YieldsList-from_zip}
 use Rattle.timbuk_cli.proofs.MarkedPairs.{are_marked_by}
 use Rattle.timbuk_cli.proofs.missing.pairs.Pairs.are_marked.Goals as goal

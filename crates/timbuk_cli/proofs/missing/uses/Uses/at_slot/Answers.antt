@@ -1,4 +1,4 @@
-use Rattle.std.proofs.Common.{ltb, leb, rules, drop, take}
+use Rattle.std.proofs.Common.{ltb, leb, rules, drop}
 use Rattle.std.proofs.lemmas.List.{take_rest}
 use Rattle.std.proofs.lemmas.List.Sorted.{IsPartitionPoint-from_clause, IsPartitionedBy-ltb, IsPartitionedBy-leb, IsNonDecreasingBy-drop}
 use Rattle.ta_core.proofs.Lookups.{part_of_key}

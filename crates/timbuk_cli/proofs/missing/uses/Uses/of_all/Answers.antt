@@ -1,4 +1,4 @@
-use Rattle.std.proofs.Common.{◌≡◌, ◌∙◌, Some, slice_get, sym, ap}
+use Rattle.std.proofs.Common.{◌∙◌, Some, sym, ap}
 use Rattle.std.proofs.lemmas.Option.{slice_get-get_or}
 use Rattle.timbuk_cli.proofs.UseLists.{uses_before_more, uses_all}
 use Rattle.timbuk_cli.proofs.missing.uses.Uses.of_all.Goals as goal
