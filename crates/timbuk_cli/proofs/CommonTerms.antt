@@ -242,10 +242,21 @@ module _ (both : TwoAutomata) where
                 let each : All (Contains (take at pairs ++ pair ∷ [])) (zip left.args right.args) = subst (λ l. All (Contains l) (zip left.args right.args)) same e.marked.each in
                 ⊎_elim
                 (λ before. still pairs next keeps n (f.enters left right n (record { first = e.first; second = e.second; same = e.same; marked = record { count = e.marked.count; each = before }; leads = e.leads })))
-                (λ there. enters n (record { left = left; right = right; there = there; enters = record { first = e.first; second = e.second; same = e.same; marked = record {
-                  count = e.marked.count;
-                  each = All-weaker (Contains (take at pairs ++ pair ∷ [])) (Contains mid) (λ p i. still pairs mid to_mid p (was_marked p i)) (zip left.args right.args) each;
-                }; leads = e.leads } }))
+                (λ there. enters n (record {
+                  left = left;
+                  right = right;
+                  there = there;
+                  enters = record {
+                    first = e.first;
+                    second = e.second;
+                    same = e.same;
+                    marked = record {
+                      count = e.marked.count;
+                      each = All-weaker (Contains (take at pairs ++ pair ∷ [])) (Contains mid) (λ p i. still pairs mid to_mid p (was_marked p i)) (zip left.args right.args) each;
+                    };
+                    leads = e.leads;
+                  };
+                }))
                 (all_or_one (take at pairs) pair (zip left.args right.args) each);
           }
 

@@ -89,9 +89,9 @@ module _ (part other : ℕ × ℕ → ℕ) (make : ℕ → ℕ → ℕ × ℕ) (
         λ either. (adds pair).1 (⊎_elim
             (λ o. inl ((h pair).1 (inl o)))
             (λ lead. ⊎_elim
-                (λ i. inl ((h pair).1 (inr (lead.0, i, lead.2))))
-                (λ same. inr (sym (made pair) ∙ (λ i. make ((sym (ap (λ (x : ℕ × ℕ). x.1) same)) i) (lead.2 i))))
-                (Contains-push_cases (take k eps) e (lead.0, part pair) lead.1))
+            (λ i. inl ((h pair).1 (inr (lead.0, i, lead.2))))
+            (λ same. inr (sym (made pair) ∙ (λ i. make ((sym (ap (λ (x : ℕ × ℕ). x.1) same)) i) (lead.2 i))))
+            (Contains-push_cases (take k eps) e (lead.0, part pair) lead.1))
             either),
       )
 

@@ -48,13 +48,13 @@ uses_more old all new position trans k state at h is used =
       λ either. ⊎_elim
           (λ o. Contains-append_left all (u ∷ []) used ((h used).1 (inl o)))
           (λ b. ⊎_elim
-              (λ below. Contains-append_left all (u ∷ []) used ((h used).1 (inr (b.0, b.1, below))))
-              (λ last.
-              let place : k ≡ used.slot.place = omega (arith, last, b.2) in
-              let there : state ≡ used.slot.state = same_some state used.slot.state (sym (ap (λ n. slice_get trans.args n) place) ∙ at) b.1.state in
-              let same : u ≡ used = λ i. use_of (there i) (b.1.sym i) (place i) (sym b.0 i) in
-              subst (Contains (all ++ u ∷ [])) same (Contains-push all u))
-              (cases_lt used.slot.place k))
+          (λ below. Contains-append_left all (u ∷ []) used ((h used).1 (inr (b.0, b.1, below))))
+          (λ last.
+          let place : k ≡ used.slot.place = omega (arith, last, b.2) in
+          let there : state ≡ used.slot.state = same_some state used.slot.state (sym (ap (λ n. slice_get trans.args n) place) ∙ at) b.1.state in
+          let same : u ≡ used = λ i. use_of (there i) (b.1.sym i) (place i) (sym b.0 i) in
+          subst (Contains (all ++ u ∷ [])) same (Contains-push all u))
+          (cases_lt used.slot.place k))
           either,
     )
 

@@ -34,10 +34,12 @@ pub(crate) fn have_no_common_term(
 {
     let product = Product::new(alloc, first, second)?;
     let pairs = product.meeting_pairs(alloc)?;
-    Ok(pairs
-        .as_slice()
-        .iter()
-        .all(|(first, second)| product.are_not_both_final(*first, *second)))
+    Ok(
+        pairs
+            .as_slice()
+            .iter()
+            .all(|pair| product.are_not_both_final(*pair)),
+    )
 }
 
 /// Two automata, with the uses of their states. Contracts see the automata.
@@ -142,7 +144,12 @@ impl<'a> Product<'a> {
 
     /// Marks the pairs to which two transitions of one symbol lead that have the two states at one place, where all pairs of
     /// their arguments are marked. The only error is want of memory.
-    fn follow_transitions(&self, first: u32, second: u32, pairs: &mut Pairs) -> Result<(), AllocError>
+    fn follow_transitions(
+        &self,
+        first: u32,
+        second: u32,
+        pairs: &mut Pairs,
+    ) -> Result<(), AllocError>
         requires { All (Meets self.now.first self.now.second) pairs.old }
         ensures meets { OnOk result (All (Meets self.now.first self.now.second) pairs.new) }
         ensures kept { OnOk result (Keeps pairs.old pairs.new) }
@@ -193,9 +200,10 @@ impl<'a> Product<'a> {
     }
 
     /// Whether not both states are final.
-    fn are_not_both_final(&self, first: u32, second: u32) -> bool
-        ensures { IsTrue result ↔ AreNotBothFinal self.now (first, second) }
+    fn are_not_both_final(&self, pair: (u32, u32)) -> bool
+        ensures { IsTrue result ↔ AreNotBothFinal self.now pair }
     {
+        let (first, second) = pair;
         !is_final(self.first, first) || !is_final(self.second, second)
     }
 }

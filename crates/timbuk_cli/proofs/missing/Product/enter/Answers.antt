@@ -10,7 +10,7 @@ returns-in_ok-mark-clause-meets c =
     let left = c.args.left.now in
     let right = c.args.right.now in
     let marked : AreMarked old left.args right.args =
-        subst (λ (ps : List ℕ). AreMarked old ps right.args) c.as_slice.ensures (subst (λ (qs : List ℕ). AreMarked old c.as_slice.result.now qs) c.as_slice-2.ensures (c.are_marked.ensures.0 c.if-are_marked.true)) in
+    subst (λ (ps : List ℕ). AreMarked old ps right.args) c.as_slice.ensures (subst (λ (qs : List ℕ). AreMarked old c.as_slice.result.now qs) c.as_slice-2.ensures (c.are_marked.ensures.0 c.if-are_marked.true)) in
     meets_more both old c.mark.new.self (λ next. next ≡ (left.to, right.to)) c.requires.meets (λ next i. (c.in_ok-mark.ensures.members next).0 i) (λ next leads. enters_meet both old left right next c.requires.meets (record {
       first = c.requires.first;
       second = c.requires.second;
