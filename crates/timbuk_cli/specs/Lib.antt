@@ -13,3 +13,6 @@ pub mod Parts
 pub mod Reads
 pub mod Closing
 pub mod Meeting
+pub mod Slots
+pub mod Uses
+pub mod Products
