@@ -1,8 +1,9 @@
 -- What the verdicts of `run` rest on.
-use Rattle.std.proofs.Common.{◌≡◌, ℕ, ◌≤◌, List, Option, Some, None, IfSome, IsTrue, length, arith, map, sym, subst, inl, refl, codes}
+use Rattle.std.proofs.Common.{◌≡◌, ℕ, ◌≤◌, List, Option, Some, None, IfSome, IsTrue, Bool, Result, Ok, Err, IfOk, ◌↔◌, length, arith, map, sym, subst, inl, refl, codes}
 use Rattle.std.specs.List.{All, range_with_len}
 use Rattle.std.proofs.lemmas.List.Elements.{All-map, All-weaker}
-use Rattle.trs_rules.specs.Rules.{IsRule}
+use Rattle.std.specs.declared.alloc.AllocError.{AllocError}
+use Rattle.trs_rules.specs.Rules.{RewriteRule, IsRule}
 use Rattle.ranked_terms.specs.Names.{Symbol}
 use Rattle.ta_core.specs.TreeAutomaton.{IsSound}
 use Rattle.ta_core.specs.SpecRules.{automaton_is_over}
@@ -29,6 +30,14 @@ rules_are_rules declarations signature count allowed = All-map IsRule rule_of de
 pub settled_by : (spec : Spec) → IsSound spec.initial → Closed spec.initial spec.rules → HaveNoCommonTerm spec.initial spec.forbidden → SettlesItself spec
 settled_by spec sound closed misses =
     record { contained = contains_itself spec.initial sound; closed = closed; misses = λ t one other. misses t one.accepted other.accepted }
+
+-- a test of closure is a test of this, where the initial automaton misses the forbidden language
+pub settles_by_both : (spec : Spec) → IsSound spec.initial → HaveNoCommonTerm spec.initial spec.forbidden → (rules : List RewriteRule) → rules ≡ spec.rules → (result : Result Bool AllocError) → IfOk result (λ yes. IsTrue yes ↔ Closed spec.initial rules) → IfOk result (λ yes. IsTrue yes ↔ SettlesItself spec)
+settles_by_both spec sound misses rules are (Ok answer) exact = (
+  λ t. settled_by spec sound (subst (Closed spec.initial) are (exact.0 t)) misses,
+  λ settles. exact.1 (subst (Closed spec.initial) (sym are) settles.closed),
+)
+settles_by_both spec sound misses rules are (Err e) exact = tt
 
 -- where it doesn't miss the forbidden language, it settles nothing
 pub meets_unsettled : (spec : Spec) → IsTrue (automaton_is_over spec.signature spec.initial) → (HaveNoCommonTerm spec.initial spec.forbidden → ⊥) → SettlesItself spec → ⊥
