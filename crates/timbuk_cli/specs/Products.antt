@@ -2,6 +2,7 @@
 use Rattle.std.specs.Prelude.{◌≡◌, ℕ, Bool, ◌==◌, ◌&&◌, List, [], ◌++◌, length, zip, Some, slice_get, All, Contains}
 use Rattle.ta_core.specs.TreeAutomaton.{TreeAutomaton}
 use Rattle.ta_core.specs.declared.trans.Trans.{Trans}
+use Rattle.timbuk_cli.specs.Meeting.{Meets}
 use Rattle.timbuk_cli.specs.declared.missing.uses.Use.{Use}
 
 -- two automata
@@ -13,6 +14,10 @@ pub record TwoAutomata : Type 0 where
 abbrev pub same_pair : ℕ × ℕ → ℕ × ℕ → Bool
 same_pair p q = p.0 == q.0 && p.1 == q.1
 
+-- to both states of each pair, one ground term runs
+abbrev pub AllMeet : TwoAutomata → List (ℕ × ℕ) → Type 0
+AllMeet both pairs = All (Meets both.first both.second) pairs
+
 -- the list begins as the earlier one
 abbrev pub Keeps : List (ℕ × ℕ) → List (ℕ × ℕ) → Type 0
 Keeps old new = (rest : List (ℕ × ℕ)) × (new ≡ old ++ rest)
@@ -21,6 +26,14 @@ Keeps old new = (rest : List (ℕ × ℕ)) × (new ≡ old ++ rest)
 pub record AreMarked (pairs : List (ℕ × ℕ)) (ps qs : List ℕ) : Type 0 where
   pub count : length ps ≡ length qs
   pub each : All (Contains pairs) (zip ps qs)
+
+-- one of the epsilon transitions leads to the first state of the pair, and the second is this one
+abbrev pub LeadsToFirst : List (ℕ × ℕ) → ℕ → ℕ × ℕ → Type 0
+LeadsToFirst eps second next = (from : ℕ) × Contains eps (from, next.0) × (next.1 ≡ second)
+
+-- one of the epsilon transitions leads to the second state of the pair, and the first is this one
+abbrev pub LeadsToSecond : ℕ → List (ℕ × ℕ) → ℕ × ℕ → Type 0
+LeadsToSecond first eps next = (from : ℕ) × Contains eps (from, next.1) × (next.0 ≡ first)
 
 -- an epsilon transition of one of the automata leads from the pair to the next
 pub data StepsTo (both : TwoAutomata) (pair : ℕ × ℕ) : ℕ × ℕ → Type 0 where

@@ -8,11 +8,11 @@
 //! transitions from either state, and each two transitions of one symbol with the two states at one place. These lead on
 //! where all pairs of their arguments are marked. So two transitions are looked at at most once for each argument, and
 //! when the last of their pairs is taken all of them are marked.
-ghost use Rattle.std.specs.Prelude.{◌≡◌, ◌↔◌, ℕ, IsTrue, IfOk, OnOk, All, Contains};
+ghost use Rattle.std.specs.Prelude.{◌≡◌, ◌↔◌, ℕ, IsTrue, IfOk, OnOk, Contains};
 ghost use Rattle.ta_core.specs.TreeAutomaton.{IsSound};
 ghost use Rattle.ta_core.specs.declared.trans.Trans.{Trans as Transition};
 ghost use Rattle.timbuk_cli.specs.Meeting.{Meets, HaveNoCommonTerm};
-ghost use Rattle.timbuk_cli.specs.Products.{Keeps, StepsTo, Enters, EntersBy, EntersAt, Starts, AreNotBothFinal};
+ghost use Rattle.timbuk_cli.specs.Products.{AllMeet, Keeps, StepsTo, Enters, EntersBy, EntersAt, Starts, AreNotBothFinal};
 ghost use Rattle.timbuk_cli.specs.Uses.{IsUseOf};
 
 mod pairs;
@@ -98,8 +98,8 @@ impl<'a> Product<'a> {
 
     /// Marks the pairs to which a constant runs by one transition of each automaton. The only error is want of memory.
     fn mark_constants(&self, pairs: &mut Pairs) -> Result<(), AllocError>
-        requires { All (Meets self.now.first self.now.second) pairs.old }
-        ensures meets { OnOk result (All (Meets self.now.first self.now.second) pairs.new) }
+        requires { AllMeet self.now pairs.old }
+        ensures meets { OnOk result (AllMeet self.now pairs.new) }
         ensures kept { OnOk result (Keeps pairs.old pairs.new) }
         ensures marked { OnOk result ((next : ℕ × ℕ) → Starts self.now next → Contains pairs.new next) }
     {
@@ -112,11 +112,11 @@ impl<'a> Product<'a> {
     }
 
     /// Marks the pairs to which the transition leads together with one of the second automaton that has the same symbol,
-    /// where all pairs of their arguments are marked, as at a constant. The only error is want of memory.
+    /// where all pairs of their arguments are marked. At a constant there are none. The only error is want of memory.
     fn mark_constant(&self, left: &Trans, pairs: &mut Pairs) -> Result<(), AllocError>
         requires has { Contains self.now.first.trans left.now }
-        requires meets { All (Meets self.now.first self.now.second) pairs.old }
-        ensures meets { OnOk result (All (Meets self.now.first self.now.second) pairs.new) }
+        requires meets { AllMeet self.now pairs.old }
+        ensures meets { OnOk result (AllMeet self.now pairs.new) }
         ensures kept { OnOk result (Keeps pairs.old pairs.new) }
         ensures marked { OnOk result ((right : Transition) (next : ℕ × ℕ) → Enters self.now pairs.old left.now right next → Contains pairs.new next) }
     {
@@ -129,9 +129,9 @@ impl<'a> Product<'a> {
     /// Marks the pairs to which an epsilon transition of either automaton leads from the marked pair. The only error is want
     /// of memory.
     fn follow_epsilons(&self, first: u32, second: u32, pairs: &mut Pairs) -> Result<(), AllocError>
-        requires meets { All (Meets self.now.first self.now.second) pairs.old }
+        requires meets { AllMeet self.now pairs.old }
         requires marked { Contains pairs.old (first, second) }
-        ensures meets { OnOk result (All (Meets self.now.first self.now.second) pairs.new) }
+        ensures meets { OnOk result (AllMeet self.now pairs.new) }
         ensures kept { OnOk result (Keeps pairs.old pairs.new) }
         ensures marked { OnOk result ((next : ℕ × ℕ) → StepsTo self.now (first, second) next → Contains pairs.new next) }
         ensures first_sound { OnOk result (IsSound self.now.first) }
@@ -150,8 +150,8 @@ impl<'a> Product<'a> {
         second: u32,
         pairs: &mut Pairs,
     ) -> Result<(), AllocError>
-        requires { All (Meets self.now.first self.now.second) pairs.old }
-        ensures meets { OnOk result (All (Meets self.now.first self.now.second) pairs.new) }
+        requires { AllMeet self.now pairs.old }
+        ensures meets { OnOk result (AllMeet self.now pairs.new) }
         ensures kept { OnOk result (Keeps pairs.old pairs.new) }
         ensures marked { OnOk result ((next : ℕ × ℕ) → EntersAt self.now pairs.old (first, second) next → Contains pairs.new next) }
     {
@@ -165,8 +165,8 @@ impl<'a> Product<'a> {
     /// state at the same place, where all pairs of their arguments are marked. The only error is want of memory.
     fn follow_use(&self, used: Use, second: u32, pairs: &mut Pairs) -> Result<(), AllocError>
         requires used { IsUseOf self.now.first.trans used }
-        requires meets { All (Meets self.now.first self.now.second) pairs.old }
-        ensures meets { OnOk result (All (Meets self.now.first self.now.second) pairs.new) }
+        requires meets { AllMeet self.now pairs.old }
+        ensures meets { OnOk result (AllMeet self.now pairs.new) }
         ensures kept { OnOk result (Keeps pairs.old pairs.new) }
         ensures marked { OnOk result ((next : ℕ × ℕ) → EntersBy self.now pairs.old used second next → Contains pairs.new next) }
     {
@@ -188,8 +188,8 @@ impl<'a> Product<'a> {
         requires first { Contains self.now.first.trans left.now }
         requires second { Contains self.now.second.trans right.now }
         requires same { left.now.sym ≡ right.now.sym }
-        requires meets { All (Meets self.now.first self.now.second) pairs.old }
-        ensures meets { OnOk result (All (Meets self.now.first self.now.second) pairs.new) }
+        requires meets { AllMeet self.now pairs.old }
+        ensures meets { OnOk result (AllMeet self.now pairs.new) }
         ensures kept { OnOk result (Keeps pairs.old pairs.new) }
         ensures marked { OnOk result ((next : ℕ × ℕ) → Enters self.now pairs.old left.now right.now next → Contains pairs.new next) }
     {

@@ -1,7 +1,7 @@
 //! Marked pairs of states.
 ghost use Rattle.std.specs.Prelude.{◌≡◌, ◌⊎◌, ◌↔◌, ℕ, [], IsTrue, Contains, OnOk, slice_get};
 ghost use Rattle.std.specs.List.{IsDistinct};
-ghost use Rattle.timbuk_cli.specs.Products.{same_pair, Keeps, AreMarked};
+ghost use Rattle.timbuk_cli.specs.Products.{same_pair, Keeps, LeadsToFirst, LeadsToSecond, AreMarked};
 
 use indexmap::IndexSet;
 use std::alloc::{AllocError, Global};
@@ -69,7 +69,7 @@ impl Pairs {
     /// Marks the state to which each of the epsilon transitions leads, with the second state. The only error is want of
     /// memory.
     pub(super) fn mark_firsts(&mut self, eps: &[(u32, u32)], second: u32) -> Result<(), AllocError>
-        ensures members { OnOk result ((next : ℕ × ℕ) → Contains self.new next ↔ (Contains self.old next ⊎ ((from : ℕ) × Contains eps.now (from, next.0) × (next.1 ≡ second)))) }
+        ensures members { OnOk result ((next : ℕ × ℕ) → Contains self.new next ↔ (Contains self.old next ⊎ LeadsToFirst eps.now second next)) }
         ensures kept { OnOk result (Keeps self.old self.new) }
     {
         for (_, to) in eps {
@@ -80,7 +80,7 @@ impl Pairs {
 
     /// Marks the first state with each to which one of the epsilon transitions leads. The only error is want of memory.
     pub(super) fn mark_seconds(&mut self, first: u32, eps: &[(u32, u32)]) -> Result<(), AllocError>
-        ensures members { OnOk result ((next : ℕ × ℕ) → Contains self.new next ↔ (Contains self.old next ⊎ ((from : ℕ) × Contains eps.now (from, next.1) × (next.0 ≡ first)))) }
+        ensures members { OnOk result ((next : ℕ × ℕ) → Contains self.new next ↔ (Contains self.old next ⊎ LeadsToSecond first eps.now next)) }
         ensures kept { OnOk result (Keeps self.old self.new) }
     {
         for (_, to) in eps {
