@@ -14,7 +14,7 @@ use Rattle.timbuk_cli.specs.Source.{SymbolDeclaration, RuleDeclaration, Automato
 use Rattle.timbuk_cli.specs.SpecText.{SpecText, IsAllowed, IsAllowedAutomaton, Declares, AreNewNames, AreRules, Numbers, NumbersForbidden, has_comment}
 use Rattle.timbuk_cli.specs.Sections.{glyphs_in, IsCut}
 use Rattle.timbuk_cli.specs.Reading.{ReadsSymbols}
-use Rattle.timbuk_cli.specs.Reads.{ReadsTitle, ReadsRules, LacksRules, ReadsAutomaton, LacksAutomaton, ReadsForbidden, LacksForbidden}
+use Rattle.timbuk_cli.specs.Reads.{ReadsTitle, LacksRules, ReadsAutomaton, LacksAutomaton, ReadsForbidden, LacksForbidden}
 use Rattle.timbuk_cli.specs.Parts.{PartsSpell, ReadsSystem, ReadsParts}
 use Rattle.timbuk_cli.proofs.Spelling.{same_all, same_glyphs, symbols-decodable, names-decodable}
 use Rattle.timbuk_cli.proofs.SourceCut.{with_optional, whole_spells}

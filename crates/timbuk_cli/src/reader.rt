@@ -54,18 +54,8 @@ fn read_sections(alloc: Global, sections: &Sections) -> Result<Spec, SpecError>
     ensures unread { IsErrOf result SpecError.Unread → (source : Source) → IsAllowed source → PartsSpell sections.now source → ⊥ }
 {
     let system = read_system(alloc, sections)?;
-    let initial = read_automaton(
-        alloc,
-        &system.signature,
-        &system.variables,
-        &sections.initial,
-    )?;
-    let forbidden = read_forbidden(
-        alloc,
-        &system.signature,
-        &system.variables,
-        sections.forbidden.as_ref(),
-    )?;
+    let initial = read_automaton(alloc, &system, &sections.initial)?;
+    let forbidden = read_forbidden(alloc, &system, sections.forbidden.as_ref())?;
     Ok(Spec {
         vars: system.variables.to_names(alloc)?,
         signature: system.signature,

@@ -1,13 +1,12 @@
 //! Reads what stands before the automata of a text: the symbols, the variables and the rules.
-ghost use Rattle.std.specs.Prelude.{◌≡◌, ◌++◌, IsTrue, IfOk, IsErrOf};
+ghost use Rattle.std.specs.Prelude.{◌≡◌, IsTrue, IfOk, IsErrOf};
 ghost use Rattle.std.specs.List.{IsDistinct};
 ghost use Rattle.std.specs.Str.{bytes_eq};
-ghost use Rattle.ranked_terms.specs.Names.{names_of};
 ghost use Rattle.ta_core.specs.SpecRules.{rules_are_over};
 ghost use Rattle.timbuk_cli.specs.Source.{Source};
 ghost use Rattle.timbuk_cli.specs.SpecText.{IsAllowed};
 ghost use Rattle.timbuk_cli.specs.Sections.{AreTokens};
-ghost use Rattle.timbuk_cli.specs.Parts.{PartsSpell, ReadsSystem};
+ghost use Rattle.timbuk_cli.specs.Parts.{PartsSpell, ReadsSystem, names_in};
 
 use crate::reader::SpecError;
 use crate::reader::names::{NameTable, after_title, read_names};
@@ -37,7 +36,7 @@ pub(crate) fn read_system(alloc: Global, sections: &Sections) -> Result<System, 
     requires { AreTokens sections.now }
     ensures ok { IfOk result (λ system. ReadsSystem sections.now system) }
     ensures over { IfOk result (λ system. IsTrue (rules_are_over system.signature system.rules)) }
-    ensures distinct { IfOk result (λ system. IsDistinct bytes_eq (names_of system.signature ++ system.variables)) }
+    ensures distinct { IfOk result (λ system. IsDistinct bytes_eq (names_in system)) }
     ensures unread { IsErrOf result SpecError.Unread → (source : Source) → IsAllowed source → PartsSpell sections.now source → ⊥ }
 {
     let rules = after_title(sections.system).ok_or(SpecError::Unread)?;
