@@ -8,13 +8,14 @@ use Rattle.timbuk_lex.specs.Lexing.{lexed}
 use Rattle.timbuk_lex.specs.declared.lex.Ending.TheVariants.{Whole}
 use Rattle.timbuk_lex.specs.declared.lexeme.Lexeme.{Lexeme}
 use Rattle.timbuk_cli.specs.declared.reader.sections.Sections.{Sections}
+use Rattle.timbuk_cli.specs.declared.reader.system.System.{System}
 use Rattle.timbuk_cli.specs.Glyphs.{Text, word, glyphs_of}
 use Rattle.timbuk_cli.specs.Source.{SymbolDeclaration, RuleDeclaration, AutomatonDeclaration, Source, symbols_in, variables_in, signature_of, signature_in, taken_names, spelled_symbol, spelled_name, spelled_rule, spelled_all}
 use Rattle.timbuk_cli.specs.SpecText.{SpecText, IsAllowed, IsAllowedAutomaton, Declares, AreNewNames, AreRules, Numbers, NumbersForbidden, has_comment}
 use Rattle.timbuk_cli.specs.Sections.{glyphs_in, IsCut}
 use Rattle.timbuk_cli.specs.Reading.{ReadsSymbols}
-use Rattle.timbuk_cli.specs.Reads.{ReadsTitle, ReadsRules, LacksRules, ReadsAutomaton, LacksAutomaton, ReadsForbidden, LacksForbidden}
-use Rattle.timbuk_cli.specs.Parts.{PartsSpell, ReadsParts}
+use Rattle.timbuk_cli.specs.Reads.{ReadsTitle, LacksRules, ReadsAutomaton, LacksAutomaton, ReadsForbidden, LacksForbidden}
+use Rattle.timbuk_cli.specs.Parts.{PartsSpell, ReadsSystem, ReadsParts}
 use Rattle.timbuk_cli.proofs.Spelling.{same_all, same_glyphs, symbols-decodable, names-decodable}
 use Rattle.timbuk_cli.proofs.SourceCut.{with_optional, whole_spells}
 
@@ -57,6 +58,10 @@ module _ (p : Sections) (source : Source) (allowed : IsAllowed source) (spell : 
 
 -- ---- parts that are read declare what was read
 
+-- names beside which none are taken but the symbols'
+pub beside_symbols : (signature : List Symbol) (vars none : List Text) → none ≡ [] → AreNewNames (names_of signature ++ none) 1024 vars → AreNewNames (names_of signature) 1024 vars
+beside_symbols signature vars none is h = subst (λ ns. AreNewNames ns 1024 vars) (ap (λ ns. names_of signature ++ ns) is ∙ append-nil (names_of signature)) h
+
 abbrev read_source : List SymbolDeclaration → List Text → Text → List RuleDeclaration → AutomatonDeclaration → Option AutomatonDeclaration → Source
 read_source symbols variables system rules initial forbidden = record {
   ops = Some symbols;
@@ -67,46 +72,46 @@ read_source symbols variables system rules initial forbidden = record {
   forbidden = forbidden;
 }
 
-pub parts_read : (p : Sections) (spec : Spec) (rest : List Lexeme) (vars none : List Text)
-    → ReadsTitle p.system.now rest
-    → ReadsSymbols (glyphs_of p.ops.now) spec.signature
-    → none ≡ []
-    → (glyphs_of p.vars.now ≡ spelled_all spelled_name vars) × AreNewNames (names_of spec.signature ++ none) 1024 vars
-    → ReadsRules spec.signature vars rest spec.rules
-    → ReadsAutomaton spec.signature (names_of spec.signature ++ vars) (glyphs_in p.initial) spec.initial
-    → ReadsForbidden spec.signature (names_of spec.signature ++ vars) (option_map glyphs_in p.forbidden) spec.forbidden
-    → spec.vars ≡ vars → spec.equations ≡ [] → spec.entries ≡ [] → spec.extra ≡ 0 → spec.approximated ≡ false
+pub parts_read : (p : Sections) (spec : Spec) (system : System)
+    → ReadsSystem p system
+    → ReadsAutomaton spec.signature (names_of spec.signature ++ system.variables) (glyphs_in p.initial) spec.initial
+    → ReadsForbidden spec.signature (names_of spec.signature ++ system.variables) (option_map glyphs_in p.forbidden) spec.forbidden
+    → spec.signature ≡ system.signature → spec.vars ≡ system.variables → spec.rules ≡ system.rules
+    → spec.equations ≡ [] → spec.entries ≡ [] → spec.extra ≡ 0 → spec.approximated ≡ false
     → ReadsParts p spec
-parts_read p spec rest vars none system symbols is variables rules initial forbidden vars_are equations entries extra approximated =
-    let source = read_source symbols.declarations vars system.title rules.declarations initial.declaration forbidden.declaration in
-    let taken : names_of spec.signature ++ none ≡ names_of (signature_of symbols.declarations) = ap (λ ns. names_of spec.signature ++ ns) is ∙ append-nil (names_of spec.signature) ∙ ap names_of symbols.numbered in
+parts_read p spec system before initial forbidden signature vars_are rules_are equations entries extra approximated =
+    let vars = system.variables in
+    let symbols = before.symbols in
+    let rules = before.rules in
+    let numbered = signature ∙ symbols.numbered in
+    let source = read_source symbols.declarations vars before.title.title rules.declarations initial.declaration forbidden.declaration in
     record {
       source = source;
       spelled = record {
         ops = symbols.tokens;
-        vars = variables.0;
-        system = system.glyphs ∙ (λ i. word system.title ∷ (rules.glyphs ∙ ap (λ sig. spelled_all (spelled_rule sig vars) rules.declarations) symbols.numbered) i);
+        vars = before.names;
+        system = before.title.glyphs ∙ (λ i. word before.title.title ∷ (rules.glyphs ∙ ap (λ sig. spelled_all (spelled_rule sig vars) rules.declarations) symbols.numbered) i);
         initial = initial.spelled;
         forbidden = forbidden.spelled;
       };
       allowed = record {
-        title = system.named;
+        title = before.title.named;
         symbols = symbols.allowed;
-        variables = subst (λ ns. AreNewNames ns 1024 vars) taken variables.1;
+        variables = subst (λ sig. AreNewNames (names_of sig) 1024 vars) symbols.numbered before.variables;
         rules = subst (λ sig. AreRules sig (length vars) rules.declarations) symbols.numbered rules.allowed;
-        initial = subst (λ sig. IsAllowedAutomaton sig (names_of sig ++ vars) initial.declaration) symbols.numbered initial.allowed;
-        forbidden = subst (λ sig. IfSome forbidden.declaration (IsAllowedAutomaton sig (names_of sig ++ vars))) symbols.numbered forbidden.allowed;
+        initial = subst (λ sig. IsAllowedAutomaton sig (names_of sig ++ vars) initial.declaration) numbered initial.allowed;
+        forbidden = subst (λ sig. IfSome forbidden.declaration (IsAllowedAutomaton sig (names_of sig ++ vars))) numbered forbidden.allowed;
       };
       declares = record {
-        signature = symbols.numbered;
+        signature = numbered;
         vars = vars_are;
-        rules = rules.are;
+        rules = rules_are ∙ rules.are;
         equations = equations;
         entries = entries;
         extra = extra;
         approximated = approximated;
-        initial = subst (λ sig. Numbers sig initial.declaration spec.initial) symbols.numbered initial.numbers;
-        forbidden = subst (λ sig. NumbersForbidden sig forbidden.declaration spec.forbidden) symbols.numbered forbidden.numbers;
+        initial = subst (λ sig. Numbers sig initial.declaration spec.initial) numbered initial.numbers;
+        forbidden = subst (λ sig. NumbersForbidden sig forbidden.declaration spec.forbidden) numbered forbidden.numbers;
       };
     }
 

@@ -18,21 +18,17 @@ mod pattern;
 mod rules;
 mod sections;
 mod symbols;
+mod system;
 mod transition;
 
 use automaton::{read_automaton, read_forbidden};
 use comment::has_comment;
-use names::{NameTable, after_title, read_names};
 use ranked_terms::Seq;
-use rules::read_rules;
 use sections::{Sections, cut};
 use std::alloc::{AllocError, Global};
-use symbols::read_symbols;
+use system::read_system;
 use ta_core::Spec;
 use timbuk_lex::{Ending, lex_of};
-
-/// The largest number of variables that a text declares.
-const MAX_VARIABLES: usize = 1024;
 
 /// Why no specification was read.
 #[derive(Clone, Copy, Debug, PartialEq, Eq)]
@@ -57,17 +53,13 @@ fn read_sections(alloc: Global, sections: &Sections) -> Result<Spec, SpecError>
     ensures found { IfOk result (λ spec. ReadsParts sections.now spec) }
     ensures unread { IsErrOf result SpecError.Unread → (source : Source) → IsAllowed source → PartsSpell sections.now source → ⊥ }
 {
-    let rules = after_title(sections.system).ok_or(SpecError::Unread)?;
-    let signature = read_symbols(alloc, sections.ops)?;
-    let none = NameTable::new(alloc);
-    let vars = read_names(alloc, sections.vars, &signature, &none, MAX_VARIABLES)?;
-    let rules = read_rules(alloc, &signature, &vars, rules)?;
-    let initial = read_automaton(alloc, &signature, &vars, &sections.initial)?;
-    let forbidden = read_forbidden(alloc, &signature, &vars, sections.forbidden.as_ref())?;
+    let system = read_system(alloc, sections)?;
+    let initial = read_automaton(alloc, &system, &sections.initial)?;
+    let forbidden = read_forbidden(alloc, &system, sections.forbidden.as_ref())?;
     Ok(Spec {
-        vars: vars.to_names(alloc)?,
-        signature,
-        rules,
+        vars: system.variables.to_names(alloc)?,
+        signature: system.signature,
+        rules: system.rules,
         equations: Seq::new(alloc),
         entries: Seq::new(alloc),
         extra: 0,

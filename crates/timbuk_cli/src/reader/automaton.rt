@@ -1,21 +1,22 @@
 //! Reads an automaton: its title, its states, its final states and its transitions.
-ghost use Rattle.std.specs.Prelude.{◌≡◌, ◌≤◌, ◌++◌, All, Contains, IsTrue, length, option_map, IfSome, IfOk, IsErrOf};
+ghost use Rattle.std.specs.Prelude.{◌≡◌, ◌≤◌, All, Contains, IsTrue, length, option_map, IfSome, IfOk, IsErrOf};
 ghost use Rattle.std.specs.List.{range_with_len, IsDistinct};
 ghost use Rattle.std.specs.Option.{option_copied};
 ghost use Rattle.std.specs.Str.{bytes_eq};
-ghost use Rattle.ranked_terms.specs.Names.{names_of};
 ghost use Rattle.ta_core.specs.TreeAutomaton.{bare};
 ghost use Rattle.ta_core.specs.SpecRules.{automaton_is_over};
 ghost use Rattle.timbuk_cli.specs.Glyphs.{HasWord};
 ghost use Rattle.timbuk_cli.specs.Source.{spelled_name, spelled_transition};
 ghost use Rattle.timbuk_cli.specs.SpecText.{place_in, transition_of, IsAllowedTransition};
 ghost use Rattle.timbuk_cli.specs.Sections.{glyphs_in, AreAutomatonTokens};
+ghost use Rattle.timbuk_cli.specs.Parts.{names_in};
 ghost use Rattle.timbuk_cli.specs.Reads.{ReadsAll, LacksAll, ReadsAutomaton, LacksAutomaton, ReadsForbidden, LacksForbidden};
 
 use crate::reader::SpecError;
 use crate::reader::front::first_name;
 use crate::reader::names::{NameTable, read_names, read_title};
 use crate::reader::sections::AutomatonSections;
+use crate::reader::system::System;
 use crate::reader::transition::read_transition;
 use ranked_terms::{Seq, Signature};
 use std::alloc::{AllocError, Global};
@@ -76,26 +77,32 @@ fn automaton_of_states(alloc: Global, count: u32) -> Result<Automaton, AllocErro
     Automaton::with_states(alloc, count, &states)
 }
 
-/// The automaton that its sections declare: the states are numbered in their order, and what stands twice counts once. No
-/// state has the name of a symbol or of a variable. `Unread` only where the sections spell no allowed automaton.
+/// The automaton over the symbols of the system that its sections declare: the states are numbered in their order, and
+/// what stands twice counts once. No state has the name of a symbol or of a variable. `Unread` only where the sections spell
+/// no allowed automaton.
 pub(crate) fn read_automaton(
     alloc: Global,
-    signature: &Signature,
-    variables: &NameTable,
+    system: &System,
     sections: &AutomatonSections,
 ) -> Result<Automaton, SpecError>
-    requires distinct { IsDistinct bytes_eq (names_of signature.now ++ variables.now) }
+    requires distinct { IsDistinct bytes_eq (names_in system.now) }
     requires tokens { AreAutomatonTokens sections.now }
-    ensures ok { IfOk result (λ automaton. ReadsAutomaton signature.now (names_of signature.now ++ variables.now) (glyphs_in sections.now) automaton) }
-    ensures over { IfOk result (λ automaton. IsTrue (automaton_is_over signature.now automaton)) }
-    ensures unread { IsErrOf result SpecError.Unread → LacksAutomaton signature.now (names_of signature.now ++ variables.now) (glyphs_in sections.now) }
+    ensures ok { IfOk result (λ automaton. ReadsAutomaton system.now.signature (names_in system.now) (glyphs_in sections.now) automaton) }
+    ensures over { IfOk result (λ automaton. IsTrue (automaton_is_over system.now.signature automaton)) }
+    ensures unread { IsErrOf result SpecError.Unread → LacksAutomaton system.now.signature (names_in system.now) (glyphs_in sections.now) }
 {
     if !read_title(sections.title) {
         return Err(SpecError::Unread);
     }
-    let states = read_names(alloc, sections.states, signature, variables, MAX_STATES)?;
+    let states = read_names(
+        alloc,
+        sections.states,
+        &system.signature,
+        &system.variables,
+        MAX_STATES,
+    )?;
     let finals = read_finals(alloc, &states, sections.finals)?;
-    let trans = read_transitions(alloc, signature, &states, sections.transitions)?;
+    let trans = read_transitions(alloc, &system.signature, &states, sections.transitions)?;
     let mut automaton = automaton_of_states(alloc, states.len() as u32)?;
     automaton.set_all_final(finals)?;
     automaton.add_all_trans(trans)?;
@@ -106,18 +113,17 @@ pub(crate) fn read_automaton(
 /// only where there are sections that spell no allowed automaton.
 pub(crate) fn read_forbidden(
     alloc: Global,
-    signature: &Signature,
-    variables: &NameTable,
+    system: &System,
     sections: Option<&AutomatonSections>,
 ) -> Result<Automaton, SpecError>
-    requires distinct { IsDistinct bytes_eq (names_of signature.now ++ variables.now) }
+    requires distinct { IsDistinct bytes_eq (names_in system.now) }
     requires tokens { IfSome (option_copied sections) AreAutomatonTokens }
-    ensures ok { IfOk result (λ automaton. ReadsForbidden signature.now (names_of signature.now ++ variables.now) (option_map glyphs_in (option_copied sections.entry)) automaton) }
-    ensures over { IfOk result (λ automaton. IsTrue (automaton_is_over signature.now automaton)) }
-    ensures unread { IsErrOf result SpecError.Unread → LacksForbidden signature.now (names_of signature.now ++ variables.now) (option_map glyphs_in (option_copied sections.entry)) }
+    ensures ok { IfOk result (λ automaton. ReadsForbidden system.now.signature (names_in system.now) (option_map glyphs_in (option_copied sections.entry)) automaton) }
+    ensures over { IfOk result (λ automaton. IsTrue (automaton_is_over system.now.signature automaton)) }
+    ensures unread { IsErrOf result SpecError.Unread → LacksForbidden system.now.signature (names_in system.now) (option_map glyphs_in (option_copied sections.entry)) }
 {
     match sections {
-        Some(sections) => read_automaton(alloc, signature, variables, sections),
+        Some(sections) => read_automaton(alloc, system, sections),
         None => Ok(Automaton::new(alloc)),
     }
 }
