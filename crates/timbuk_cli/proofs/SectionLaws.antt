@@ -387,16 +387,6 @@ none_assembled xs none b h e =
     let no : None ≡ Some b = sym none ∙ some in
     cc
 
--- an `if` gives nothing at a list of tokens that is not empty
-pub none_where_some : {V : Type 0} (ls : List Lexeme) (v : V) → (length ls == 0) ≡ false → (if length (glyphs_of ls) == 0 then Some v else None) ≡ None
-none_where_some [] v e = absurd (true≢false e)
-none_where_some (l ∷ ls) v e = rw (not_zero (length (glyphs_of ls))) refl
-
--- and a value where it is empty
-pub some_where_none : {V : Type 0} (ls : List Lexeme) (v : V) → (length ls == 0) ≡ true → (if length (glyphs_of ls) == 0 then Some v else None) ≡ Some v
-some_where_none [] v e = refl
-some_where_none (l ∷ ls) v e = absurd (true≢false (sym e ∙ not_zero (length ls)))
-
 -- tokens are assembled from bodies in one way
 pub one_way : (xs : Glyphs) (a b : Bodies) → AreBodies a → AreBodies b → xs ≡ assembled a → xs ≡ assembled b → a ≡ b
 one_way xs a b h k e f =
