@@ -1,5 +1,5 @@
 -- From the parts of a text to its specification, and back.
-use Rattle.std.proofs.Common.{◌≡◌, ◌≢◌, ℕ, List, [], ◌∷◌, ◌++◌, Option, Some, unwrap_or, option_map, Result, Ok, Err, IfOk, length, false, sym, ap, subst, ◌∙◌}
+use Rattle.std.proofs.Common.{◌≡◌, ◌≢◌, ℕ, List, [], ◌∷◌, ◌++◌, Option, Some, unwrap_or, option_map, length, false, sym, ap, subst, ◌∙◌}
 use Rattle.std.proofs.lemmas.List.{append-nil}
 use Rattle.std.specs.Prelude.{IfSome}
 use Rattle.ranked_terms.specs.Names.{Symbol, names_of}
@@ -153,8 +153,3 @@ spec_from_parts bytes lexemes p spec plain whole are cut parts =
       allowed = same_allowed parts.source w.ops w.vars w.symbols_are w.variables_are parts.allowed;
       declares = same_declares parts.source w.ops w.vars w.symbols_are w.variables_are spec parts.declares;
     }
-
--- a fact of each answer from another
-pub on_ok : {T E : Type 0} (P Q : T → Type 0) → ((x : T) → P x → Q x) → (r : Result T E) → IfOk r P → IfOk r Q
-on_ok P Q f (Ok x) h = f x h
-on_ok P Q f (Err e) h = tt

@@ -114,10 +114,3 @@ one_spec bytes a b h k =
     let bodies = one_way (glyphs_of (lexed bytes).tokens) (bodies_of h.source) (bodies_of k.source) (bodies_of-free h.source h.allowed) (bodies_of-free k.source k.allowed)
     (h.tokens ∙ spelled-assembled h.source) (k.tokens ∙ spelled-assembled k.source) in
     same_declared h.source k.source a b (same_declarations h.source k.source h.allowed k.allowed bodies) h.declares k.declares
-
--- so it has one list of rules, and one initial automaton
-pub one_list_of_rules : (bytes : List ℕ) (a b : Spec) → SpecText bytes a → SpecText bytes b → a.rules ≡ b.rules
-one_list_of_rules bytes a b h k = ap (λ (s : Spec). s.rules) (one_spec bytes a b h k)
-
-pub one_initial : (bytes : List ℕ) (a b : Spec) → SpecText bytes a → SpecText bytes b → a.initial ≡ b.initial
-one_initial bytes a b h k = ap (λ (s : Spec). s.initial) (one_spec bytes a b h k)
