@@ -6,3 +6,4 @@ pub mod Naming
 pub mod SpecText
 pub mod Spelled
 pub mod Laws
+pub mod Tokens

@@ -1,0 +1,33 @@
+-- The tokens of an input text as they are told to a caller, and the fault where there are none (this project's own format).
+use Rattle.std.specs.Prelude.{ℕ, ◌&&◌, Bool, nat_lt, List, Option, Some, None, find, length}
+use Rattle.timbuk_lex.specs.Lexing.{lexed}
+use Rattle.timbuk_lex.specs.declared.lexeme.Lexeme.{Lexeme}
+use Rattle.timbuk_lex.specs.declared.lex.Ending.{Ending}
+use Rattle.timbuk_lex.specs.declared.lex.Ending.TheVariants.{Whole, Stopped}
+use Rattle.timbuk_grammar.specs.Matching.{is_word}
+use Rattle.timbuk_reader.specs.declared.fault.SpecFault.{SpecFault}
+use Rattle.timbuk_reader.specs.declared.fault.SpecKind.TheVariants as kind
+use Rattle.timbuk_reader.specs.declared.fault.LimitName.TheVariants as limit
+use Rattle.timbuk_reader.specs.declared.token.Token.{Token}
+use Rattle.timbuk_reader.specs.Reading.{fault, lexical_kind}
+
+-- a token with a text of its own
+abbrev pub token_of : Lexeme → Token
+token_of x = record { kind = x.kind; text = x.text; start = x.start; line = x.line; column = x.column }
+
+-- a word of more than 255 bytes
+abbrev pub is_long_word : Lexeme → Bool
+is_long_word x = is_word x.kind && nat_lt 255 (length x.text)
+
+-- the fault of the byte that begins no token, where there is one
+abbrev pub ending_fault : Ending → Option SpecFault
+ending_fault Whole = None
+ending_fault (Stopped why line column) = Some (fault (lexical_kind why) line column)
+
+abbrev pub first_fault : Option Lexeme → Ending → Option SpecFault
+first_fault (Some x) ending = Some (fault (kind.Limit limit.NameBytes) x.line x.column)
+first_fault None ending = ending_fault ending
+
+-- the first, from the left, of a word that is too long and of a byte that begins no token
+abbrev pub token_fault : List ℕ → Option SpecFault
+token_fault bytes = first_fault (find is_long_word (lexed bytes).tokens) (lexed bytes).ending
