@@ -5,5 +5,6 @@ pub mod Source
 pub mod Naming
 pub mod SpecText
 pub mod Spelled
+pub mod Faults
 pub mod Laws
 pub mod Tokens

@@ -6,5 +6,5 @@ mod laws;
 mod token;
 
 pub use fault::{LimitName, SpecFault, SpecKind};
-pub use laws::{no_text_has_two_specs, texts_are_read};
+pub use laws::{faults_are_first, no_text_has_two_specs, texts_are_read};
 pub use token::{Token, TokenError, tokens};
