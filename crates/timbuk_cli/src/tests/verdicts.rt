@@ -62,7 +62,11 @@ fn closed_automata_settle_reachability(rt: HostRuntime) -> Result<(), Fail> {
     for (shows, text) in texts {
         let (status, sink) = complete(rt.alloc(), text)?;
         assert_eq!(rt; status, Status::Unreachable, "{shows}");
-        assert_eq!(rt; sink.bytes(), b"Verdict unreachable\n".as_slice(), "{shows}");
+        assert_eq!(rt;
+            sink.bytes(),
+            b"Verdict unreachable\n".as_slice(),
+            "{shows}"
+        );
     }
     Ok(())
 }
@@ -143,7 +147,9 @@ fn what_is_no_rule_is_refused(rt: HostRuntime) -> Result<(), Fail> {
         ("an argument that is not closed", "g(x -> a"),
     ];
     for (shows, rule) in rules {
-        let text = format!(in rt.alloc(); "Ops a:0 g:1 f:2 Vars x y TRS R {rule} Automaton A States q0 Final States q0 Transitions a -> q0")?;
+        let text = format!(in rt.alloc();
+            "Ops a:0 g:1 f:2 Vars x y TRS R {rule} Automaton A States q0 Final States q0 Transitions a -> q0"
+        )?;
         let (status, sink) = complete(rt.alloc(), text.as_bytes())?;
         assert_eq!(rt; status, Status::BadSpec, "{shows}");
         assert_eq!(rt; sink.bytes(), b"Bad specification\n".as_slice(), "{shows}");
@@ -154,7 +160,9 @@ fn what_is_no_rule_is_refused(rt: HostRuntime) -> Result<(), Fail> {
 /// A text of one rule `left -> a` over `a`, the unary `g` and `h` with sixteen arguments.
 fn one_rule(alloc: Global, left: &str) -> Result<String, AllocError> {
     let variables = "x0 x1 x2 x3 x4 x5 x6 x7 x8 x9 x10 x11 x12 x13 x14 x15 x16";
-    format!(in alloc; "Ops a:0 g:1 h:16 Vars {variables} TRS R {left} -> a Automaton A States q0 Final States q0 Transitions a -> q0")
+    format!(in alloc;
+        "Ops a:0 g:1 h:16 Vars {variables} TRS R {left} -> a Automaton A States q0 Final States q0 Transitions a -> q0"
+    )
 }
 
 #[test]
@@ -162,9 +170,18 @@ fn a_rule_has_at_most_sixteen_variables(rt: HostRuntime) -> Result<(), Fail> {
     let first = "x0,x1,x2,x3,x4,x5,x6,x7,x8,x9,x10,x11,x12,x13,x14";
     let others = "a,a,a,a,a,a,a,a,a,a,a,a,a,a";
     let rows = [
-        (format!(in rt.alloc(); "h({first},x15)")?, Status::Unreachable),
-        (format!(in rt.alloc(); "h({first},h(x15,a,{others}))")?, Status::Unreachable),
-        (format!(in rt.alloc(); "h({first},h(x15,x16,{others}))")?, Status::BadSpec),
+        (
+            format!(in rt.alloc(); "h({first},x15)")?,
+            Status::Unreachable,
+        ),
+        (
+            format!(in rt.alloc(); "h({first},h(x15,a,{others}))")?,
+            Status::Unreachable,
+        ),
+        (
+            format!(in rt.alloc(); "h({first},h(x15,x16,{others}))")?,
+            Status::BadSpec,
+        ),
     ];
     for (left, expected) in rows.iter() {
         let text = one_rule(rt.alloc(), left.as_str())?;
