@@ -8,7 +8,7 @@ use crate::trans::Trans;
 
 impl Automaton {
     /// The transitions of the symbol, by arguments and target.
-    pub(crate) fn trans_with(&self, sym: u32) -> &[Trans]
+    pub fn trans_with(&self, sym: u32) -> &[Trans]
         ensures members { (t : Transition) → Contains result.now t ↔ (Contains self.now.trans t × (t.sym ≡ sym)) }
         ensures sound { IsSound self.now }
     {
@@ -20,7 +20,7 @@ impl Automaton {
     }
 
     /// The epsilon transitions from the state, by target.
-    pub(crate) fn eps_from(&self, state: u32) -> &[(u32, u32)]
+    pub fn eps_from(&self, state: u32) -> &[(u32, u32)]
         ensures members { (e : ℕ × ℕ) → Contains result.now e ↔ (Contains self.now.eps e × (e.0 ≡ state)) }
         ensures sound { IsSound self.now }
     {

@@ -1,5 +1,5 @@
 -- What the declarations of an automaton number.
-use Rattle.std.proofs.Common.{◌≡◌, ℕ, ◌+◌, ◌<◌, ◌==◌, true, List, [], ◌∷◌, ◌++◌, All, Contains, IsTrue, map, length, sym, ap, subst, ◌∙◌, inr, ⊎_elim, arith}
+use Rattle.std.proofs.Common.{◌≡◌, ◌≢◌, ℕ, ◌+◌, ◌<◌, ◌==◌, true, List, [], ◌∷◌, ◌++◌, Some, All, Contains, IsTrue, map, length, sym, ap, subst, ◌∙◌, inr, ⊎_elim, arith}
 use Rattle.std.specs.declared.cmp.Ordering.{Ordering}
 use Rattle.std.specs.List.{range_with_len}
 use Rattle.std.specs.List.Sorted.{IsStrictlySortedBy}
@@ -17,12 +17,16 @@ use Rattle.ta_core.specs.SpecRules.{automaton_is_over}
 use Rattle.ta_core.specs.TreeAutomaton.{TreeAutomaton, IsTransOf, bare, trans_cmp}
 use Rattle.ta_core.specs.declared.trans.Trans.{Trans}
 use Rattle.timbuk_lex.specs.declared.lexeme.Lexeme.{Lexeme}
-use Rattle.timbuk_cli.specs.Glyphs.{Text, word}
-use Rattle.timbuk_cli.specs.Source.{TransitionDeclaration, spelled_name, spelled_transition}
-use Rattle.timbuk_cli.specs.SpecText.{place_in, transition_of, IsAllowedTransition, IsAscendingSet}
-use Rattle.timbuk_cli.specs.Reads.{ReadsAll, ReadsAutomaton}
+use Rattle.timbuk_cli.specs.declared.reader.sections.AutomatonSections.{AutomatonSections}
+use Rattle.timbuk_cli.specs.Glyphs.{Text, word, glyphs_of}
+use Rattle.timbuk_cli.specs.Source.{TransitionDeclaration, AutomatonDeclaration, spelled_name, spelled_transition, spelled_all}
+use Rattle.timbuk_cli.specs.SpecText.{place_in, transition_of, AreNewNames, IsAllowedTransition, IsAscendingSet}
+use Rattle.timbuk_cli.specs.Sections.{AutomatonBodies, automaton_bodies, glyphs_in}
+use Rattle.timbuk_cli.specs.Reading.{IsOneName}
+use Rattle.timbuk_cli.specs.Reads.{ReadsAll, LacksAll, ReadsAutomaton, LacksAutomaton, ReadsForbidden}
 use Rattle.timbuk_cli.proofs.Fronts.{same_tail, below_from_position}
 use Rattle.timbuk_cli.proofs.Decoding.{Decodes}
+use Rattle.timbuk_cli.proofs.Spelling.{same_all, names-decodable}
 use Rattle.timbuk_cli.proofs.Transitions.{position_from_contains, arity_at_head}
 
 pub Decodes-name : (states : List Text) → Decodes spelled_name (Contains states)
@@ -107,8 +111,8 @@ module _ (signature : List Symbol) (states : List Text) where
       list_all-from_AllPass (λ t. is_symbol signature t.sym (length t.args)) A.trans each
 
   module _ (A B C : TreeAutomaton) (e : A ≡ bare (length states) (range_with_len 0 (length states))) (f : B ≡ record A { finals = B.finals }) (g : C ≡ record B { trans = C.trans })
-      (xs ys : List Lexeme) (finals : List ℕ) (trans : List Trans)
-      (r : ReadsAll spelled_name (Contains states) (place_in states) xs finals) (t : ReadsAll spelled_transition (IsAllowedTransition signature states) (transition_of signature states) ys trans)
+      (p : AutomatonSections) (finals : List ℕ) (trans : List Trans)
+      (r : ReadsAll spelled_name (Contains states) (place_in states) p.finals.now finals) (t : ReadsAll spelled_transition (IsAllowedTransition signature states) (transition_of signature states) p.transitions.now trans)
       (finals_in : IsUnion A.finals finals B.finals) (finals_ascend : IsStrictlySortedBy nat_cmp B.finals)
       (trans_in : IsUnion B.trans trans C.trans) (trans_ascend : IsStrictlySortedBy trans_cmp C.trans) where
     trans_set : IsAscendingSet trans_cmp C.trans (map (transition_of signature states) t.declarations)
@@ -117,14 +121,11 @@ module _ (signature : List Symbol) (states : List Text) where
     finals_set : IsAscendingSet nat_cmp B.finals (map (place_in states) r.declarations)
     finals_set = set_of nat_cmp A.finals finals B.finals (map (place_in states) r.declarations) (ap (λ (D : TreeAutomaton). D.finals) e) r.are finals_in finals_ascend
 
-    pub reads_automaton : ReadsAutomaton signature states xs ys C
-    reads_automaton = record {
-      names = r.declarations;
-      declarations = t.declarations;
-      spelled_finals = r.glyphs;
-      spelled_transitions = t.glyphs;
-      are_states = r.allowed;
-      are_allowed = t.allowed;
+    pub reads_automaton : (taken : List Text) → IsOneName (glyphs_of p.title.now) → (glyphs_of p.states.now ≡ spelled_all spelled_name states) × AreNewNames taken 16384 states → ReadsAutomaton signature taken (glyphs_in p) C
+    reads_automaton taken title named = record {
+      declaration = record { title = title.name; states = states; finals = r.declarations; transitions = t.declarations };
+      spelled = λ i. record { title = title.token i; states = named.0 i; finals = r.glyphs i; transitions = t.glyphs i };
+      allowed = record { title = title.named; states = named.1; finals = r.allowed; transitions = t.allowed };
       numbers = record {
         states_are = ap (λ (D : TreeAutomaton). D.states) g ∙ (ap (λ (D : TreeAutomaton). D.states) f ∙ ap (λ (D : TreeAutomaton). D.states) e);
         next_is = ap (λ (D : TreeAutomaton). D.next) g ∙ (ap (λ (D : TreeAutomaton). D.next) f ∙ ap (λ (D : TreeAutomaton). D.next) e);
@@ -136,3 +137,31 @@ module _ (signature : List Symbol) (states : List Text) where
 
     pub automaton_over : IsTrue (automaton_is_over signature C)
     automaton_over = is_over C t.declarations t.allowed trans_set
+
+-- ---- sections that are refused spell no allowed automaton
+
+module _ (signature : List Symbol) (taken : List Text) (p : AutomatonSections) where
+  pub no_title : (IsOneName (glyphs_of p.title.now) → ⊥) → LacksAutomaton signature taken (glyphs_in p)
+  no_title none = record { none = λ d ok e. none (record { name = d.title; named = ok.title; token = ap (λ (b : AutomatonBodies). b.title) e }) }
+
+  pub no_states : ((names : List Text) → AreNewNames taken 16384 names → glyphs_of p.states.now ≢ spelled_all spelled_name names) → LacksAutomaton signature taken (glyphs_in p)
+  no_states none = record { none = λ d ok e. none d.states ok.states (ap (λ (b : AutomatonBodies). b.states) e) }
+
+  module _ (states : List Text) (states_are : glyphs_of p.states.now ≡ spelled_all spelled_name states) where
+    same_states : (d : AutomatonDeclaration) → glyphs_in p ≡ automaton_bodies d → d.states ≡ states
+    same_states d e = same_all spelled_name names-decodable d.states states (sym (ap (λ (b : AutomatonBodies). b.states) e) ∙ states_are)
+
+    pub no_finals : LacksAll spelled_name (Contains states) p.finals.now → LacksAutomaton signature taken (glyphs_in p)
+    no_finals lacks = record {
+      none = λ d ok e. lacks.none d.finals (subst (λ ss. All (Contains ss) d.finals) (same_states d e) ok.finals) (ap (λ (b : AutomatonBodies). b.finals) e);
+    }
+
+    pub no_transitions : LacksAll spelled_transition (IsAllowedTransition signature states) p.transitions.now → LacksAutomaton signature taken (glyphs_in p)
+    no_transitions lacks = record {
+      none = λ d ok e. lacks.none d.transitions (subst (λ ss. All (IsAllowedTransition signature ss) d.transitions) (same_states d e) ok.transitions) (ap (λ (b : AutomatonBodies). b.transitions) e);
+    }
+
+-- ---- the automaton that may be left out
+
+pub reads_forbidden : (signature : List Symbol) (taken : List Text) (b : AutomatonBodies) (A : TreeAutomaton) → ReadsAutomaton signature taken b A → ReadsForbidden signature taken (Some b) A
+reads_forbidden signature taken b A r = record { declaration = Some r.declaration; spelled = ap Some r.spelled; allowed = r.allowed; numbers = r.numbers }

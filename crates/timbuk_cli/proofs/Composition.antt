@@ -1,37 +1,23 @@
 -- From the parts of a text to its specification, and back.
-use Rattle.std.proofs.Common.{◌≡◌, ◌≢◌, ℕ, ◌<◌, List, [], ◌∷◌, ◌++◌, Option, Some, unwrap_or, Result, Ok, Err, IfOk, length, false, refl, sym, ap, subst, ◌∙◌, arith, length-append}
+use Rattle.std.proofs.Common.{◌≡◌, ◌≢◌, ℕ, List, [], ◌∷◌, ◌++◌, Option, Some, unwrap_or, option_map, length, false, sym, ap, subst, ◌∙◌}
 use Rattle.std.proofs.lemmas.List.{append-nil}
-use Rattle.std.specs.List.{All, Contains}
+use Rattle.std.specs.Prelude.{IfSome}
 use Rattle.ranked_terms.specs.Names.{Symbol, names_of}
-use Rattle.ta_core.specs.TreeAutomaton.{bare}
 use Rattle.ta_core.specs.declared.spec.Spec.{Spec}
 use Rattle.timbuk_lex.specs.Lexing.{lexed}
 use Rattle.timbuk_lex.specs.declared.lex.Ending.TheVariants.{Whole}
 use Rattle.timbuk_lex.specs.declared.lexeme.Lexeme.{Lexeme}
 use Rattle.timbuk_cli.specs.declared.reader.sections.Sections.{Sections}
-use Rattle.timbuk_cli.specs.Glyphs.{Text, Glyph, word, glyphs_of}
-use Rattle.timbuk_cli.specs.Source.{SymbolDeclaration, RuleDeclaration, TransitionDeclaration, Source, symbols_in, variables_in, signature_of, signature_in, spelled_symbol, spelled_name, spelled_rule, spelled_all}
-use Rattle.timbuk_cli.specs.SpecText.{SpecText, IsAllowed, Declares, AreNewNames, AreRules, IsAllowedTransition, Numbers, has_comment}
-use Rattle.timbuk_cli.specs.Sections.{IsCut}
-use Rattle.timbuk_cli.specs.Reading.{ReadsSymbols, IsOneName}
-use Rattle.timbuk_cli.specs.Reads.{ReadsTitle, ReadsRules, LacksRules, ReadsAutomaton, LacksAutomaton}
-use Rattle.timbuk_cli.specs.Parts.{PartsSpell, ReadsParts}
-use Rattle.timbuk_cli.proofs.Spelling.{IsDecodable, same_glyphs, symbols-decodable, names-decodable}
+use Rattle.timbuk_cli.specs.declared.reader.system.System.{System}
+use Rattle.timbuk_cli.specs.Glyphs.{Text, word, glyphs_of}
+use Rattle.timbuk_cli.specs.Source.{SymbolDeclaration, RuleDeclaration, AutomatonDeclaration, Source, symbols_in, variables_in, signature_of, signature_in, taken_names, spelled_symbol, spelled_name, spelled_rule, spelled_all}
+use Rattle.timbuk_cli.specs.SpecText.{SpecText, IsAllowed, IsAllowedAutomaton, Declares, AreNewNames, AreRules, Numbers, NumbersForbidden, has_comment}
+use Rattle.timbuk_cli.specs.Sections.{glyphs_in, IsCut}
+use Rattle.timbuk_cli.specs.Reading.{ReadsSymbols}
+use Rattle.timbuk_cli.specs.Reads.{ReadsTitle, LacksRules, ReadsAutomaton, LacksAutomaton, ReadsForbidden, LacksForbidden}
+use Rattle.timbuk_cli.specs.Parts.{PartsSpell, ReadsSystem, ReadsParts}
+use Rattle.timbuk_cli.proofs.Spelling.{same_all, same_glyphs, symbols-decodable, names-decodable}
 use Rattle.timbuk_cli.proofs.SourceCut.{with_optional, whole_spells}
-
--- ---- one spelling, one list of declarations
-
-longer : (xs ys : List Glyph) → 0 < length xs → [] ≡ xs ++ ys → ⊥
-longer xs ys some e = omega (arith, some, ap length e, length-append xs ys)
-
-pub same_all : {D : Type 0} (spelled : D → List Glyph) → IsDecodable spelled → (ds es : List D) → spelled_all spelled ds ≡ spelled_all spelled es → ds ≡ es
-same_all spelled h [] [] e = refl
-same_all spelled h [] (x ∷ es) e = absurd (longer (spelled x) (spelled_all spelled es) (h.some x) e)
-same_all spelled h (d ∷ ds) [] e = absurd (longer (spelled d) (spelled_all spelled ds) (h.some d) (sym e))
-same_all spelled h (d ∷ ds) (x ∷ es) e =
-    let p = h.same d x (spelled_all spelled ds) (spelled_all spelled es) e in
-    let rest = same_all spelled h ds es p.1 in
-    λ i. p.0 i ∷ rest i
 
 -- ---- a part that is refused has no declarations
 
@@ -59,76 +45,73 @@ module _ (p : Sections) (source : Source) (allowed : IsAllowed source) (spell : 
         (subst (λ sig. AreRules sig (length vars) source.rules) (sym same_signature) (subst (λ vs. AreRules (signature_in source) (length vs) source.rules) (sym same_variables) allowed.rules))
         (behind_title p source rest spell title ∙ (λ i. spelled_all (spelled_rule (sym same_signature i) (sym same_variables i)) source.rules))
 
-    pub no_states : ((names : List Text) → AreNewNames (names_of signature ++ vars) 16384 names → glyphs_of p.states.now ≢ spelled_all spelled_name names) → ⊥
-    no_states unread =
-        let taken : names_of (signature_of (symbols_in source)) ++ variables_in source ≡ names_of signature ++ vars = λ i. names_of (sym same_signature i) ++ sym same_variables i in
-        unread source.states (subst (λ ns. AreNewNames ns 16384 source.states) taken allowed.states) spell.states
+    -- what is said of the declared signature and names is said of those that are read
+    as_read : (P : List Symbol → List Text → Type 0) → P (signature_in source) (taken_names source) → P signature (names_of signature ++ vars)
+    as_read P h =
+        subst (λ vs. P signature (names_of signature ++ vs)) (sym same_variables) (subst (λ sig. P sig (names_of sig ++ variables_in source)) (sym same_signature) h)
 
-  pub no_automaton : (states : List Text) → glyphs_of p.states.now ≡ spelled_all spelled_name states → LacksAutomaton signature states p.finals.now p.transitions.now → ⊥
-  no_automaton states states_are lacks =
-      let same : states ≡ source.states = same_all spelled_name names-decodable states source.states (sym states_are ∙ spell.states) in
-      lacks.none source.finals source.transitions
-      (subst (λ ss. All (Contains ss) source.finals) (sym same) allowed.finals)
-      (subst (λ ss. All (IsAllowedTransition signature ss) source.transitions) (sym same) (subst (λ sig. All (IsAllowedTransition sig source.states) source.transitions) (sym same_signature) allowed.transitions))
-      spell.finals spell.transitions
+    pub no_initial : LacksAutomaton signature (names_of signature ++ vars) (glyphs_in p.initial) → ⊥
+    no_initial lacks = lacks.none source.initial (as_read (λ sig taken. IsAllowedAutomaton sig taken source.initial) allowed.initial) spell.initial
+
+    pub no_forbidden : LacksForbidden signature (names_of signature ++ vars) (option_map glyphs_in p.forbidden) → ⊥
+    no_forbidden lacks = lacks.none source.forbidden (as_read (λ sig taken. IfSome source.forbidden (IsAllowedAutomaton sig taken)) allowed.forbidden) spell.forbidden
 
 -- ---- parts that are read declare what was read
 
-abbrev read_source : List SymbolDeclaration → List Text → Text → List RuleDeclaration → Text → List Text → List Text → List TransitionDeclaration → Source
-read_source symbols variables system rules automaton states finals transitions = record {
+-- names beside which none are taken but the symbols'
+pub beside_symbols : (signature : List Symbol) (vars none : List Text) → none ≡ [] → AreNewNames (names_of signature ++ none) 1024 vars → AreNewNames (names_of signature) 1024 vars
+beside_symbols signature vars none is h = subst (λ ns. AreNewNames ns 1024 vars) (ap (λ ns. names_of signature ++ ns) is ∙ append-nil (names_of signature)) h
+
+abbrev read_source : List SymbolDeclaration → List Text → Text → List RuleDeclaration → AutomatonDeclaration → Option AutomatonDeclaration → Source
+read_source symbols variables system rules initial forbidden = record {
   ops = Some symbols;
   vars = Some variables;
   system = system;
   rules = rules;
-  automaton = automaton;
-  states = states;
-  finals = finals;
-  transitions = transitions;
+  initial = initial;
+  forbidden = forbidden;
 }
 
-pub parts_read : (p : Sections) (spec : Spec) (rest : List Lexeme) (vars states none : List Text)
-    → ReadsTitle p.system.now rest → IsOneName (glyphs_of p.automaton.now)
-    → ReadsSymbols (glyphs_of p.ops.now) spec.signature
-    → none ≡ []
-    → (glyphs_of p.vars.now ≡ spelled_all spelled_name vars) × AreNewNames (names_of spec.signature ++ none) 1024 vars
-    → ReadsRules spec.signature vars rest spec.rules
-    → (glyphs_of p.states.now ≡ spelled_all spelled_name states) × AreNewNames (names_of spec.signature ++ vars) 16384 states
-    → ReadsAutomaton spec.signature states p.finals.now p.transitions.now spec.initial
-    → spec.vars ≡ vars → spec.equations ≡ [] → spec.entries ≡ [] → spec.extra ≡ 0 → spec.approximated ≡ false → spec.forbidden ≡ bare 0 []
+pub parts_read : (p : Sections) (spec : Spec) (system : System)
+    → ReadsSystem p system
+    → ReadsAutomaton spec.signature (names_of spec.signature ++ system.variables) (glyphs_in p.initial) spec.initial
+    → ReadsForbidden spec.signature (names_of spec.signature ++ system.variables) (option_map glyphs_in p.forbidden) spec.forbidden
+    → spec.signature ≡ system.signature → spec.vars ≡ system.variables → spec.rules ≡ system.rules
+    → spec.equations ≡ [] → spec.entries ≡ [] → spec.extra ≡ 0 → spec.approximated ≡ false
     → ReadsParts p spec
-parts_read p spec rest vars states none system automaton symbols is variables rules named reads vars_are equations entries extra approximated forbidden =
-    let source = read_source symbols.declarations vars system.title rules.declarations automaton.name states reads.names reads.declarations in
-    let taken : names_of spec.signature ++ none ≡ names_of (signature_of symbols.declarations) = ap (λ ns. names_of spec.signature ++ ns) is ∙ append-nil (names_of spec.signature) ∙ ap names_of symbols.numbered in
+parts_read p spec system before initial forbidden signature vars_are rules_are equations entries extra approximated =
+    let vars = system.variables in
+    let symbols = before.symbols in
+    let rules = before.rules in
+    let numbered = signature ∙ symbols.numbered in
+    let source = read_source symbols.declarations vars before.title.title rules.declarations initial.declaration forbidden.declaration in
     record {
       source = source;
       spelled = record {
         ops = symbols.tokens;
-        vars = variables.0;
-        system = system.glyphs ∙ (λ i. word system.title ∷ (rules.glyphs ∙ ap (λ sig. spelled_all (spelled_rule sig vars) rules.declarations) symbols.numbered) i);
-        automaton = automaton.token;
-        states = named.0;
-        finals = reads.spelled_finals;
-        transitions = reads.spelled_transitions;
+        vars = before.names;
+        system = before.title.glyphs ∙ (λ i. word before.title.title ∷ (rules.glyphs ∙ ap (λ sig. spelled_all (spelled_rule sig vars) rules.declarations) symbols.numbered) i);
+        initial = initial.spelled;
+        forbidden = forbidden.spelled;
       };
       allowed = record {
-        titles = (system.named, automaton.named);
+        title = before.title.named;
         symbols = symbols.allowed;
-        variables = subst (λ ns. AreNewNames ns 1024 vars) taken variables.1;
+        variables = subst (λ sig. AreNewNames (names_of sig) 1024 vars) symbols.numbered before.variables;
         rules = subst (λ sig. AreRules sig (length vars) rules.declarations) symbols.numbered rules.allowed;
-        states = subst (λ sig. AreNewNames (names_of sig ++ vars) 16384 states) symbols.numbered named.1;
-        finals = reads.are_states;
-        transitions = subst (λ sig. All (IsAllowedTransition sig states) reads.declarations) symbols.numbered reads.are_allowed;
+        initial = subst (λ sig. IsAllowedAutomaton sig (names_of sig ++ vars) initial.declaration) numbered initial.allowed;
+        forbidden = subst (λ sig. IfSome forbidden.declaration (IsAllowedAutomaton sig (names_of sig ++ vars))) numbered forbidden.allowed;
       };
       declares = record {
-        signature = symbols.numbered;
+        signature = numbered;
         vars = vars_are;
-        rules = rules.are;
+        rules = rules_are ∙ rules.are;
         equations = equations;
         entries = entries;
         extra = extra;
         approximated = approximated;
-        initial = subst (λ sig. Numbers sig states reads.names reads.declarations spec.initial) symbols.numbered reads.numbers;
-        forbidden = forbidden;
+        initial = subst (λ sig. Numbers sig initial.declaration spec.initial) numbered initial.numbers;
+        forbidden = subst (λ sig. NumbersForbidden sig forbidden.declaration spec.forbidden) numbered forbidden.numbers;
       };
     }
 
@@ -137,13 +120,12 @@ parts_read p spec rest vars states none system automaton symbols is variables ru
 module _ (source : Source) (ops : Option (List SymbolDeclaration)) (vars : Option (List Text)) (symbols : unwrap_or ops [] ≡ symbols_in source) (variables : unwrap_or vars [] ≡ variables_in source) where
   same_allowed : IsAllowed source → IsAllowed (with_optional source ops vars)
   same_allowed h = record {
-    titles = h.titles;
+    title = h.title;
     symbols = rw symbols h.symbols;
     variables = rw (symbols, variables) h.variables;
     rules = rw (symbols, variables) h.rules;
-    states = rw (symbols, variables) h.states;
-    finals = h.finals;
-    transitions = rw symbols h.transitions;
+    initial = rw (symbols, variables) h.initial;
+    forbidden = rw (symbols, variables) h.forbidden;
   }
 
   same_declares : (spec : Spec) → Declares source spec → Declares (with_optional source ops vars) spec
@@ -156,7 +138,7 @@ module _ (source : Source) (ops : Option (List SymbolDeclaration)) (vars : Optio
     extra = h.extra;
     approximated = h.approximated;
     initial = rw symbols h.initial;
-    forbidden = h.forbidden;
+    forbidden = rw symbols h.forbidden;
   }
 
 -- the parts of a text without comments that is cut whole spell a specification
@@ -171,8 +153,3 @@ spec_from_parts bytes lexemes p spec plain whole are cut parts =
       allowed = same_allowed parts.source w.ops w.vars w.symbols_are w.variables_are parts.allowed;
       declares = same_declares parts.source w.ops w.vars w.symbols_are w.variables_are spec parts.declares;
     }
-
--- a fact of each answer from another
-pub on_ok : {T E : Type 0} (P Q : T → Type 0) → ((x : T) → P x → Q x) → (r : Result T E) → IfOk r P → IfOk r Q
-on_ok P Q f (Ok x) h = f x h
-on_ok P Q f (Err e) h = tt

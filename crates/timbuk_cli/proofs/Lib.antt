@@ -25,3 +25,6 @@ pub mod Closing
 pub mod PatternArguments
 pub mod ReadPatterns
 pub mod ReadRules
+pub mod MarkedPairs
+pub mod UseLists
+pub mod CommonTerms

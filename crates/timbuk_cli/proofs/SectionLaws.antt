@@ -1,10 +1,11 @@
 -- Cutting at section words: a section is found where one stands, and what is found stands there.
-use Rattle.std.proofs.Common.{◌≡◌, ◌⊎◌, inl, inr, ℕ, zero, suc, ◌+◌, ◌-◌, ◌<◌, ◌==◌, Bool, true, false, not, ◌&&◌, ◌||◌, List, [], ◌∷◌, ◌++◌, length, take, drop, get_or, Option, Some, None, unwrap_or, option_map, is_some, codes, refl, sym, ap, ◌∙◌, arith, true≢false}
-use Rattle.std.specs.Prelude.{if◌then◌else◌}
+use Rattle.std.proofs.Common.{◌≡◌, ℕ, zero, suc, ◌+◌, ◌-◌, ◌<◌, ◌==◌, Bool, true, false, not, ◌&&◌, ◌||◌, List, [], ◌∷◌, ◌++◌, length, take, drop, get_or, Option, Some, None, unwrap_or, option_map, is_some, codes, refl, sym, ap, subst, ◌∙◌, append_assoc, arith, true≢false}
+use Rattle.std.specs.Prelude.{if◌then◌else◌, IfSome}
 use Rattle.std.specs.List.{prefix_len, list_any}
 use Rattle.std.specs.Option.{option_and_then}
 use Rattle.std.specs.Str.{bytes_eq}
 use Rattle.std.proofs.lemmas.Bool.{ne_eqb}
+use Rattle.std.proofs.lemmas.Option.{option_and_then_some}
 use Rattle.std.proofs.lemmas.Slice.Eq.{bytes_eq-Decides}
 use Rattle.std.proofs.lemmas.List.{append-nil, take_all, length-drop, take-map, drop-map}
 use Rattle.timbuk_lex.specs.declared.lexeme.Lexeme.{Lexeme}
@@ -13,7 +14,7 @@ use Rattle.timbuk_lex.specs.declared.lexeme.TokenKind.TheVariants.{Word, Text as
 use Rattle.timbuk_cli.specs.Vocabulary.{is_reserved}
 use Rattle.timbuk_cli.specs.Glyphs.{Text, Glyph, word, is_word, glyph_of, glyphs_of}
 use Rattle.timbuk_cli.specs.Source.{section, optional_section}
-use Rattle.timbuk_cli.specs.Sections.{is_title, is_this_word, body_len, section_of, IsBody, Bodies, AreBodies, assembled}
+use Rattle.timbuk_cli.specs.Sections.{is_title, is_this_word, body_len, section_of, IsBody, AutomatonBodies, AreAutomatonBodies, assembled_automaton, automaton_of, only_automaton_of, Bodies, AreBodies, assembled}
 
 abbrev Glyphs : Type 0
 Glyphs = List Glyph
@@ -150,25 +151,162 @@ rest_in-found : (title : Text) (body : Option Glyphs) (tail : Glyphs) → rest_i
 rest_in-found title None tail = refl
 rest_in-found title (Some body) tail = refl
 
+-- ---- the sections of an automaton
+
+-- the sections from each word on, and what follows them
+abbrev from_transitions : AutomatonBodies → Glyphs → Glyphs
+from_transitions b tail = section (codes "Transitions") b.transitions ++ tail
+
+abbrev from_finals : AutomatonBodies → Glyphs → Glyphs
+from_finals b tail = section (codes "States") b.finals ++ from_transitions b tail
+
+abbrev from_final : AutomatonBodies → Glyphs → Glyphs
+from_final b tail = section (codes "Final") [] ++ from_finals b tail
+
+abbrev from_states : AutomatonBodies → Glyphs → Glyphs
+from_states b tail = section (codes "States") b.states ++ from_final b tail
+
+abbrev from_title : AutomatonBodies → Glyphs → Glyphs
+from_title b tail = section (codes "Automaton") b.title ++ from_states b tail
+
+in_front : (b : AutomatonBodies) (tail : Glyphs) → assembled_automaton b ++ tail ≡ from_title b tail
+in_front b tail = simp append_assoc
+
+-- one section after another
+automaton_chain : (r1 r2 r3 r4 r5 r6 a q m f t : Glyphs)
+    → section_of (codes "Automaton") r1 ≡ Some (a, r2)
+    → section_of (codes "States") r2 ≡ Some (q, r3)
+    → section_of (codes "Final") r3 ≡ Some (m, r4)
+    → section_of (codes "States") r4 ≡ Some (f, r5)
+    → section_of (codes "Transitions") r5 ≡ Some (t, r6)
+    → length m ≡ 0
+    → automaton_of r1 ≡ Some (record { title = a; states = q; finals = f; transitions = t }, r6)
+automaton_chain r1 r2 r3 r4 r5 r6 a q m f t e1 e2 e3 e4 e5 none = rw (e1, e2, e3, e4, e5, none) refl
+
+-- an automaton that stands in front is found
+pub automaton_of-assembled : (b : AutomatonBodies) (tail : Glyphs) → AreAutomatonBodies b → body_len tail ≡ 0 → automaton_of (assembled_automaton b ++ tail) ≡ Some (b, tail)
+unfolding is_reserved
+automaton_of-assembled b tail h e =
+    let t1 = section_of-section (codes "Automaton") b.title (from_states b tail) h.title refl in
+    let t2 = section_of-section (codes "States") b.states (from_final b tail) h.states refl in
+    let t3 = section_of-section (codes "Final") [] (from_finals b tail) refl refl in
+    let t4 = section_of-section (codes "States") b.finals (from_transitions b tail) h.finals refl in
+    let t5 = section_of-section (codes "Transitions") b.transitions tail h.transitions e in
+    ap automaton_of (in_front b tail)
+    ∙ automaton_chain (from_title b tail) (from_states b tail) (from_final b tail) (from_finals b tail) (from_transitions b tail) tail
+    b.title b.states [] b.finals b.transitions t1 t2 t3 t4 t5 refl
+
+pub only_automaton_of-assembled : (b : AutomatonBodies) → AreAutomatonBodies b → only_automaton_of (assembled_automaton b) ≡ Some b
+only_automaton_of-assembled b h =
+    let found : automaton_of (assembled_automaton b) ≡ Some (b, []) =
+    ap automaton_of (sym (append-nil (assembled_automaton b))) ∙ automaton_of-assembled b [] h refl in
+    rw found refl
+
+-- an automaton that is found stands in front
+pub record AutomatonStands (xs : Glyphs) (b : AutomatonBodies) (tail : Glyphs) : Type 0 where
+  pub whole : xs ≡ assembled_automaton b ++ tail
+  pub free : AreAutomatonBodies b
+
+automaton_by : (xs r2 r3 r4 r5 r6 a q m f t : Glyphs)
+    → section_of (codes "Automaton") xs ≡ Some (a, r2)
+    → section_of (codes "States") r2 ≡ Some (q, r3)
+    → section_of (codes "Final") r3 ≡ Some (m, r4)
+    → section_of (codes "States") r4 ≡ Some (f, r5)
+    → section_of (codes "Transitions") r5 ≡ Some (t, r6)
+    → m ≡ []
+    → AutomatonStands xs (record { title = a; states = q; finals = f; transitions = t }) r6
+automaton_by xs r2 r3 r4 r5 r6 a q m f t e1 e2 e3 e4 e5 none =
+    let b : AutomatonBodies = record { title = a; states = q; finals = f; transitions = t } in
+    let w1 = section_of-some (codes "Automaton") xs a r2 e1 in
+    let w2 = section_of-some (codes "States") r2 q r3 e2 in
+    let w3 = section_of-some (codes "Final") r3 m r4 e3 in
+    let w4 = section_of-some (codes "States") r4 f r5 e4 in
+    let w5 = section_of-some (codes "Transitions") r5 t r6 e5 in
+    let final : r3 ≡ section (codes "Final") [] ++ r4 = w3.whole ∙ ap (λ n. section (codes "Final") n ++ r4) none in
+    record {
+      whole = w1.whole
+          ∙ ap (λ r. section (codes "Automaton") a ++ r) (w2.whole
+          ∙ ap (λ r. section (codes "States") q ++ r) (final
+          ∙ ap (λ r. section (codes "Final") [] ++ r) (w4.whole
+          ∙ ap (λ r. section (codes "States") f ++ r) w5.whole)))
+          ∙ sym (in_front b r6);
+      free = record { title = w1.free; states = w2.free; finals = w4.free; transitions = w5.free };
+    }
+
+-- an `if` that gives a value, at a list that is then empty
+some_where_empty : {X V : Type 0} (xs : List X) (v w : V) → (if length xs == 0 then Some v else None) ≡ Some w → (xs ≡ []) × (v ≡ w)
+some_where_empty [] v w e =
+    let same : v ≡ w = cc in
+    (refl, same)
+some_where_empty (x ∷ xs) v w e =
+    let none : None ≡ Some w = rw (not_zero (length xs)) at e in
+    cc
+
+pub automaton_of-some : (xs : Glyphs) (b : AutomatonBodies) (tail : Glyphs) → automaton_of xs ≡ Some (b, tail) → AutomatonStands xs b tail
+automaton_of-some xs b tail e =
+    option_and_then_some _ (section_of (codes "Automaton") xs) (b, tail) e (λ a e1 k1.
+    option_and_then_some _ (section_of (codes "States") a.1) (b, tail) k1 (λ q e2 k2.
+    option_and_then_some _ (section_of (codes "Final") q.1) (b, tail) k2 (λ m e3 k3.
+    option_and_then_some _ (section_of (codes "States") m.1) (b, tail) k3 (λ f e4 k4.
+    option_and_then_some _ (section_of (codes "Transitions") f.1) (b, tail) k4 (λ t e5 k5.
+    let last = some_where_empty m.0 (record { title = a.0; states = q.0; finals = f.0; transitions = t.0 }, t.1) (b, tail) k5 in
+    subst (λ (p : AutomatonBodies × Glyphs). AutomatonStands xs p.0 p.1) last.1 (automaton_by xs a.1 q.1 m.1 f.1 t.1 a.0 q.0 m.0 f.0 t.0 e1 e2 e3 e4 e5 last.0))))))
+
+only_automaton_of-some : (xs : Glyphs) (b : AutomatonBodies) → only_automaton_of xs ≡ Some b → AutomatonStands xs b []
+only_automaton_of-some xs b e =
+    option_and_then_some _ (automaton_of xs) b e (λ p found k.
+    let last = some_where_empty p.1 p.0 b k in
+    let stands = automaton_of-some xs p.0 p.1 found in
+    subst (λ (x : AutomatonBodies). AutomatonStands xs x []) last.1 (subst (AutomatonStands xs p.0) last.0 stands))
+
+-- ---- the automaton that may be left out
+
+-- the second automaton, where the tokens are one or there is none
+abbrev pub forbidden_of : Glyphs → Option (Option AutomatonBodies)
+forbidden_of [] = Some None
+forbidden_of (x ∷ xs) = option_and_then (λ b. Some (Some b)) (only_automaton_of (x ∷ xs))
+
+abbrev from_forbidden : Option AutomatonBodies → Glyphs
+from_forbidden forbidden = unwrap_or (option_map assembled_automaton forbidden) []
+
+forbidden_of-assembled : (forbidden : Option AutomatonBodies) → IfSome forbidden AreAutomatonBodies → forbidden_of (from_forbidden forbidden) ≡ Some forbidden
+forbidden_of-assembled None h = refl
+forbidden_of-assembled (Some b) h = ap (option_and_then (λ x. Some (Some x))) (only_automaton_of-assembled b h)
+
+record ForbiddenStands (xs : Glyphs) (forbidden : Option AutomatonBodies) : Type 0 where
+  whole : xs ≡ from_forbidden forbidden
+  free : IfSome forbidden AreAutomatonBodies
+
+forbidden_of-some : (xs : Glyphs) (forbidden : Option AutomatonBodies) → forbidden_of xs ≡ Some forbidden → ForbiddenStands xs forbidden
+forbidden_of-some [] forbidden e =
+    let same : None ≡ forbidden = cc in
+    subst (ForbiddenStands []) same (record { whole = refl; free = tt })
+forbidden_of-some (x ∷ xs) forbidden e =
+    option_and_then_some _ (only_automaton_of (x ∷ xs)) forbidden e (λ b found k.
+    let stands = only_automaton_of-some (x ∷ xs) b found in
+    let same : Some b ≡ forbidden = cc in
+    subst (ForbiddenStands (x ∷ xs)) same (record { whole = stands.whole ∙ append-nil (assembled_automaton b); free = stands.free }))
+
+-- no tokens are no second automaton
+pub forbidden_of-none : (ls : List Lexeme) → (length ls == 0) ≡ true → forbidden_of (glyphs_of ls) ≡ Some None
+forbidden_of-none [] e = refl
+forbidden_of-none (l ∷ ls) e = absurd (true≢false (sym e ∙ not_zero (length ls)))
+
+-- other tokens are one or nothing that is allowed
+pub forbidden_of-tokens : (ls : List Lexeme) → (length ls == 0) ≡ false → forbidden_of (glyphs_of ls) ≡ option_and_then (λ b. Some (Some b)) (only_automaton_of (glyphs_of ls))
+forbidden_of-tokens [] e = absurd (true≢false e)
+forbidden_of-tokens (l ∷ ls) e = refl
+
 -- ---- the whole text
 
 -- the two sections that were looked for, and the others in order
 abbrev pub cut_from : Option Glyphs → Option Glyphs → Glyphs → Option Bodies
 cut_from ops vars xs =
     option_and_then (λ (s : Glyphs × Glyphs).
-    option_and_then (λ (a : Glyphs × Glyphs).
-    option_and_then (λ (q : Glyphs × Glyphs).
-    option_and_then (λ (m : Glyphs × Glyphs).
-    option_and_then (λ (f : Glyphs × Glyphs).
-    option_and_then (λ (t : Glyphs × Glyphs).
-    if length m.0 == 0 && length t.1 == 0
-    then Some (record { ops = ops; vars = vars; system = s.0; automaton = a.0; states = q.0; finals = f.0; transitions = t.0 })
-    else None)
-    (section_of (codes "Transitions") f.1))
-    (section_of (codes "States") m.1))
-    (section_of (codes "Final") q.1))
-    (section_of (codes "States") a.1))
-    (section_of (codes "Automaton") s.1))
+    option_and_then (λ (a : AutomatonBodies × Glyphs).
+    option_and_then (λ (f : Option AutomatonBodies). Some (record { ops = ops; vars = vars; system = s.0; initial = a.0; forbidden = f }))
+    (forbidden_of a.1))
+    (automaton_of s.1))
     (section_of (codes "TRS") xs)
 
 abbrev pub cut_behind : Option Glyphs → Option (Glyphs × Glyphs) → Glyphs → Option Bodies
@@ -180,51 +318,35 @@ cut_of xs =
     cut_behind (body_in found) (section_of (codes "Vars") (rest_in found xs)) (rest_in found xs)
 
 -- the sections from each word on
-abbrev from_transitions : Bodies → Glyphs
-from_transitions b = section (codes "Transitions") b.transitions
-
-abbrev from_finals : Bodies → Glyphs
-from_finals b = section (codes "States") b.finals ++ from_transitions b
-
-abbrev from_final : Bodies → Glyphs
-from_final b = section (codes "Final") [] ++ from_finals b
-
-abbrev from_states : Bodies → Glyphs
-from_states b = section (codes "States") b.states ++ from_final b
-
-abbrev from_automaton : Bodies → Glyphs
-from_automaton b = section (codes "Automaton") b.automaton ++ from_states b
+abbrev from_initial : Bodies → Glyphs
+from_initial b = assembled_automaton b.initial ++ from_forbidden b.forbidden
 
 abbrev from_system : Bodies → Glyphs
-from_system b = section (codes "TRS") b.system ++ from_automaton b
+from_system b = section (codes "TRS") b.system ++ from_initial b
 
 abbrev from_vars : Bodies → Glyphs
 from_vars b = optional_section (codes "Vars") b.vars ++ from_system b
 
--- one section after another
-cut_chain : (ops vars : Option Glyphs) (r2 r3 r4 r5 r6 r7 r8 s a q m f t : Glyphs)
-    → section_of (codes "TRS") r2 ≡ Some (s, r3)
-    → section_of (codes "Automaton") r3 ≡ Some (a, r4)
-    → section_of (codes "States") r4 ≡ Some (q, r5)
-    → section_of (codes "Final") r5 ≡ Some (m, r6)
-    → section_of (codes "States") r6 ≡ Some (f, r7)
-    → section_of (codes "Transitions") r7 ≡ Some (t, r8)
-    → length m ≡ 0 → length r8 ≡ 0
-    → cut_from ops vars r2 ≡ Some (record { ops = ops; vars = vars; system = s; automaton = a; states = q; finals = f; transitions = t })
-cut_chain ops vars r2 r3 r4 r5 r6 r7 r8 s a q m f t e1 e2 e3 e4 e5 e6 no_m no_r = rw (e1, e2, e3, e4, e5, e6, no_m, no_r) refl
+-- one part after another
+cut_chain : (ops vars : Option Glyphs) (r1 r2 r3 s : Glyphs) (a : AutomatonBodies) (f : Option AutomatonBodies)
+    → section_of (codes "TRS") r1 ≡ Some (s, r2)
+    → automaton_of r2 ≡ Some (a, r3)
+    → forbidden_of r3 ≡ Some f
+    → cut_from ops vars r1 ≡ Some (record { ops = ops; vars = vars; system = s; initial = a; forbidden = f })
+cut_chain ops vars r1 r2 r3 s a f e1 e2 e3 = rw (e1, e2, e3) refl
+
+ends_initial : (forbidden : Option AutomatonBodies) → body_len (from_forbidden forbidden) ≡ 0
+unfolding is_reserved
+ends_initial None = refl
+ends_initial (Some b) = refl
 
 required : (b : Bodies) → AreBodies b → cut_from b.ops b.vars (from_system b) ≡ Some b
 unfolding is_reserved
 required b h =
-    let t6 : section_of (codes "Transitions") (from_transitions b) ≡ Some (b.transitions, []) =
-    ap (section_of (codes "Transitions")) (sym (append-nil (from_transitions b))) ∙ section_of-section (codes "Transitions") b.transitions [] h.transitions refl in
-    let t5 = section_of-section (codes "States") b.finals (from_transitions b) h.finals refl in
-    let t4 = section_of-section (codes "Final") [] (from_finals b) refl refl in
-    let t3 = section_of-section (codes "States") b.states (from_final b) h.states refl in
-    let t2 = section_of-section (codes "Automaton") b.automaton (from_states b) h.automaton refl in
-    let t1 = section_of-section (codes "TRS") b.system (from_automaton b) h.system refl in
-    cut_chain b.ops b.vars (from_system b) (from_automaton b) (from_states b) (from_final b) (from_finals b) (from_transitions b) []
-    b.system b.automaton b.states [] b.finals b.transitions t1 t2 t3 t4 t5 t6 refl refl
+    let system = section_of-section (codes "TRS") b.system (from_initial b) h.system refl in
+    let initial = automaton_of-assembled b.initial (from_forbidden b.forbidden) h.initial (ends_initial b.forbidden) in
+    cut_chain b.ops b.vars (from_system b) (from_initial b) (from_forbidden b.forbidden) b.system b.initial b.forbidden
+    system initial (forbidden_of-assembled b.forbidden h.forbidden)
 
 -- neither `Ops` nor another body begins behind `Ops`
 record Ends (title : Text) (tail : Glyphs) : Type 0 where
@@ -265,13 +387,6 @@ none_assembled xs none b h e =
     let no : None ≡ Some b = sym none ∙ some in
     cc
 
--- nothing is cut where tokens stand below `Final`, or behind the last section
-pub more_stands : (m r : List Lexeme) (b : Bodies) → ((length m == 0) ≡ false) ⊎ ((length r == 0) ≡ false) → (if length (glyphs_of m) == 0 && length (glyphs_of r) == 0 then Some b else None) ≡ None
-more_stands [] [] b (inl h) = absurd (true≢false h)
-more_stands [] [] b (inr h) = absurd (true≢false h)
-more_stands [] (x ∷ r) b h = rw (not_zero (length (glyphs_of r))) refl
-more_stands (x ∷ m) r b h = rw (not_zero (length (glyphs_of m))) refl
-
 -- tokens are assembled from bodies in one way
 pub one_way : (xs : Glyphs) (a b : Bodies) → AreBodies a → AreBodies b → xs ≡ assembled a → xs ≡ assembled b → a ≡ b
 one_way xs a b h k e f =
@@ -285,45 +400,39 @@ pub record AreCut (xs : Glyphs) (b : Bodies) : Type 0 where
   pub whole : xs ≡ assembled b
   pub free : AreBodies b
 
-empty : (ls : List Lexeme) → (length ls == 0) ≡ true → glyphs_of ls ≡ []
-empty [] e = refl
-empty (x ∷ ls) e = absurd (true≢false (sym e ∙ not_zero (length ls)))
-
-pub found_in_order : (xs r1 r2 r3 r4 r5 r6 r7 : Glyphs) (ops vars : Option Glyphs) (s a q f t : Glyphs) (m r8 : List Lexeme)
+cut_by : (xs r1 r2 r3 r4 : Glyphs) (ops vars : Option Glyphs) (s : Glyphs) (a : AutomatonBodies) (f : Option AutomatonBodies)
     → ops ≡ body_in (section_of (codes "Ops") xs) → r1 ≡ rest_in (section_of (codes "Ops") xs) xs
     → vars ≡ body_in (section_of (codes "Vars") r1) → r2 ≡ rest_in (section_of (codes "Vars") r1) r1
-    → Some (s, r3) ≡ section_of (codes "TRS") r2
-    → Some (a, r4) ≡ section_of (codes "Automaton") r3
-    → Some (q, r5) ≡ section_of (codes "States") r4
-    → Some (glyphs_of m, r6) ≡ section_of (codes "Final") r5
-    → Some (f, r7) ≡ section_of (codes "States") r6
-    → Some (t, glyphs_of r8) ≡ section_of (codes "Transitions") r7
-    → (length m == 0) ≡ true → (length r8 == 0) ≡ true
-    → AreCut xs (record { ops = ops; vars = vars; system = s; automaton = a; states = q; finals = f; transitions = t })
-found_in_order xs r1 r2 r3 r4 r5 r6 r7 ops vars s a q f t m r8 o1 o2 v1 v2 e1 e2 e3 e4 e5 e6 no_m no_r =
+    → section_of (codes "TRS") r2 ≡ Some (s, r3)
+    → automaton_of r3 ≡ Some (a, r4)
+    → forbidden_of r4 ≡ Some f
+    → AreCut xs (record { ops = ops; vars = vars; system = s; initial = a; forbidden = f })
+cut_by xs r1 r2 r3 r4 ops vars s a f o1 o2 v1 v2 e1 e2 e3 =
     let w1 = rw (← o1, ← o2) at (optional_found (codes "Ops") xs) in
     let w2 = rw (← v1, ← v2) at (optional_found (codes "Vars") r1) in
-    let w3 = section_of-some (codes "TRS") r2 s r3 (sym e1) in
-    let w4 = section_of-some (codes "Automaton") r3 a r4 (sym e2) in
-    let w5 = section_of-some (codes "States") r4 q r5 (sym e3) in
-    let w6 = section_of-some (codes "Final") r5 (glyphs_of m) r6 (sym e4) in
-    let w7 = section_of-some (codes "States") r6 f r7 (sym e5) in
-    let w8 = section_of-some (codes "Transitions") r7 t (glyphs_of r8) (sym e6) in
-    let none = empty m no_m in
-    let end = empty r8 no_r in
-    let last : r7 ≡ section (codes "Transitions") t = w8.whole ∙ (ap (λ r. section (codes "Transitions") t ++ r) end ∙ append-nil (section (codes "Transitions") t)) in
-    let final : r5 ≡ section (codes "Final") [] ++ r6 = w6.whole ∙ ap (λ n. section (codes "Final") n ++ r6) none in
+    let w3 = section_of-some (codes "TRS") r2 s r3 e1 in
+    let w4 = automaton_of-some r3 a r4 e2 in
+    let w5 = forbidden_of-some r4 f e3 in
     record {
       whole = w1.whole
           ∙ ap (λ r. optional_section (codes "Ops") ops ++ r) (w2.whole
           ∙ ap (λ r. optional_section (codes "Vars") vars ++ r) (w3.whole
           ∙ ap (λ r. section (codes "TRS") s ++ r) (w4.whole
-          ∙ ap (λ r. section (codes "Automaton") a ++ r) (w5.whole
-          ∙ ap (λ r. section (codes "States") q ++ r) (final
-          ∙ ap (λ r. section (codes "Final") [] ++ r) (w7.whole
-          ∙ ap (λ r. section (codes "States") f ++ r) last))))));
-      free = record { ops = w1.free; vars = w2.free; system = w3.free; automaton = w4.free; states = w5.free; finals = w7.free; transitions = w8.free };
+          ∙ ap (λ r. assembled_automaton a ++ r) w5.whole)));
+      free = record { ops = w1.free; vars = w2.free; system = w3.free; initial = w4.free; forbidden = w5.free };
     }
+
+pub cut_of-some : (xs : Glyphs) (b : Bodies) → cut_of xs ≡ Some b → AreCut xs b
+cut_of-some xs b e =
+    let ops = section_of (codes "Ops") xs in
+    let r1 = rest_in ops xs in
+    let vars = section_of (codes "Vars") r1 in
+    let r2 = rest_in vars r1 in
+    option_and_then_some _ (section_of (codes "TRS") r2) b e (λ s e1 k1.
+    option_and_then_some _ (automaton_of s.1) b k1 (λ a e2 k2.
+    option_and_then_some _ (forbidden_of a.1) b k2 (λ f e3 k3.
+    let same : record { ops = body_in ops; vars = body_in vars; system = s.0; initial = a.0; forbidden = f } ≡ b = cc in
+    subst (AreCut xs) same (cut_by xs r1 r2 s.1 a.1 (body_in ops) (body_in vars) s.0 a.0 f refl refl refl refl e1 e2 e3))))
 
 -- ---- tokens and glyphs
 

@@ -1,6 +1,6 @@
 -- The declarations of a text are bodies below section words, and where they are allowed no section goes on into the next.
 use Rattle.std.proofs.Common.{◌≡◌, ℕ, zero, suc, ◌<◌, Bool, true, false, List, [], ◌∷◌, ◌++◌, length, map, Option, Some, None, unwrap_or, option_map, refl, sym, ap, subst, ◌∙◌, true≢false}
-use Rattle.std.specs.Prelude.{All, Contains, codes}
+use Rattle.std.specs.Prelude.{All, Contains, IfSome, codes}
 use Rattle.std.specs.List.{AllByRecursion, list_all, list_any, slice_get}
 use Rattle.std.specs.Str.{bytes_eq}
 use Rattle.std.specs.Char.{is_ascii_digit}
@@ -16,9 +16,9 @@ use Rattle.ranked_terms.proofs.SignatureLaws.{name_of-number_of}
 use Rattle.ranked_terms.proofs.TermLaws.{occurrences_var, occurrences_app, pattern_is_over_app, pattern_induction}
 use Rattle.timbuk_cli.specs.Vocabulary.{is_reserved, section_words, closed_words, IsName}
 use Rattle.timbuk_cli.specs.Glyphs.{Text, Glyph, word, mark}
-use Rattle.timbuk_cli.specs.Source.{SymbolDeclaration, RuleDeclaration, TransitionDeclaration, Source, symbols_in, variables_in, signature_in, spelled_symbol, spelled_more, spelled_args, spelled_name, spelled_more_patterns, spelled_patterns, spelled_pattern, spelled_rule, spelled_transition, spelled_all, spelled}
-use Rattle.timbuk_cli.specs.SpecText.{IsArity, IsAllowedRule, IsAllowedTransition, IsAllowed, signature_of}
-use Rattle.timbuk_cli.specs.Sections.{IsBody, Bodies, AreBodies, assembled}
+use Rattle.timbuk_cli.specs.Source.{SymbolDeclaration, RuleDeclaration, TransitionDeclaration, AutomatonDeclaration, Source, symbols_in, variables_in, signature_in, taken_names, spelled_symbol, spelled_more, spelled_args, spelled_name, spelled_more_patterns, spelled_patterns, spelled_pattern, spelled_rule, spelled_transition, spelled_all, section, optional_section, spelled_automaton, spelled}
+use Rattle.timbuk_cli.specs.SpecText.{IsArity, IsAllowedRule, IsAllowedTransition, IsAllowedAutomaton, IsAllowed, signature_of}
+use Rattle.timbuk_cli.specs.Sections.{IsBody, AreAutomatonBodies, assembled_automaton, automaton_bodies, Bodies, AreBodies, assembled}
 use Rattle.timbuk_cli.proofs.PatternSpelling.{spelled_var, spelled_app}
 use Rattle.timbuk_cli.proofs.SectionLaws.{neither, both, IsBody-append, IsBody-word}
 
@@ -28,14 +28,22 @@ bodies_of source = record {
   ops = option_map (spelled_all spelled_symbol) source.ops;
   vars = option_map (spelled_all spelled_name) source.vars;
   system = word source.system ∷ spelled_all (spelled_rule (signature_in source) (variables_in source)) source.rules;
-  automaton = word source.automaton ∷ [];
-  states = spelled_all spelled_name source.states;
-  finals = spelled_all spelled_name source.finals;
-  transitions = spelled_all spelled_transition source.transitions;
+  initial = automaton_bodies source.initial;
+  forbidden = option_map automaton_bodies source.forbidden;
 }
 
+spelled_forbidden : (d : Option AutomatonDeclaration) → option_map spelled_automaton d ≡ option_map assembled_automaton (option_map automaton_bodies d)
+spelled_forbidden None = refl
+spelled_forbidden (Some d) = refl
+
 pub spelled-assembled : (source : Source) → spelled source ≡ assembled (bodies_of source)
-spelled-assembled source = refl
+spelled-assembled source =
+    ap (λ forbidden.
+    optional_section (codes "Ops") (option_map (spelled_all spelled_symbol) source.ops)
+    ++ (optional_section (codes "Vars") (option_map (spelled_all spelled_name) source.vars)
+    ++ (section (codes "TRS") (word source.system ∷ spelled_all (spelled_rule (signature_in source) (variables_in source)) source.rules)
+    ++ (spelled_automaton source.initial
+    ++ unwrap_or forbidden [])))) (spelled_forbidden source.forbidden)
 
 -- ---- words that are not reserved
 
@@ -194,15 +202,26 @@ optional_free : {D : Type 0} (spelled : D → List Glyph) (o : Option (List D)) 
 optional_free spelled None h = refl
 optional_free spelled (Some ds) h = h
 
+-- the bodies of an allowed automaton
+automaton_free : (ds : List SymbolDeclaration) (taken : List Text) (d : AutomatonDeclaration) → All (λ x. IsName x.name) ds → IsAllowedAutomaton (signature_of ds) taken d → AreAutomatonBodies (automaton_bodies d)
+automaton_free ds taken d symbols h = record {
+  title = name_free d.title h.title;
+  states = names_free d.states h.states.names;
+  finals = names_free d.finals (state_names d.states d.finals h.states.names h.finals);
+  transitions = transitions_free ds d.states d.transitions symbols h.states.names h.transitions;
+}
+
+forbidden_free : (ds : List SymbolDeclaration) (taken : List Text) (forbidden : Option AutomatonDeclaration) → All (λ x. IsName x.name) ds → IfSome forbidden (IsAllowedAutomaton (signature_of ds) taken) → IfSome (option_map automaton_bodies forbidden) AreAutomatonBodies
+forbidden_free ds taken None symbols h = tt
+forbidden_free ds taken (Some d) symbols h = automaton_free ds taken d symbols h
+
 -- the bodies of allowed declarations
 pub bodies_of-free : (source : Source) → IsAllowed source → AreBodies (bodies_of source)
 bodies_of-free source h = record {
   ops = optional_free spelled_symbol source.ops (symbols_free (symbols_in source) h.symbols.names h.symbols.arities);
   vars = optional_free spelled_name source.vars (names_free (variables_in source) h.variables.names);
-  system = IsBody-word source.system (spelled_all (spelled_rule (signature_in source) (variables_in source)) source.rules) h.titles.0.free
+  system = IsBody-word source.system (spelled_all (spelled_rule (signature_in source) (variables_in source)) source.rules) h.title.free
       (rules_free (symbols_in source) (variables_in source) h.symbols.names h.variables.names source.rules h.rules.allowed);
-  automaton = name_free source.automaton h.titles.1;
-  states = names_free source.states h.states.names;
-  finals = names_free source.finals (state_names source.states source.finals h.states.names h.finals);
-  transitions = transitions_free (symbols_in source) source.states source.transitions h.symbols.names h.states.names h.transitions;
+  initial = automaton_free (symbols_in source) (taken_names source) source.initial h.symbols.names h.initial;
+  forbidden = forbidden_free (symbols_in source) (taken_names source) source.forbidden h.symbols.names h.forbidden;
 }

@@ -8,7 +8,7 @@ use Rattle.timbuk_cli.specs.Source.{SymbolDeclaration, Source, symbols_in, varia
 use Rattle.timbuk_cli.specs.SpecText.{IsAllowed}
 use Rattle.timbuk_cli.specs.Sections.{Bodies, AreBodies, assembled, Shows, IsCut}
 use Rattle.timbuk_cli.specs.Parts.{PartsSpell}
-use Rattle.timbuk_cli.proofs.SourceBodies.{bodies_of, bodies_of-free}
+use Rattle.timbuk_cli.proofs.SourceBodies.{bodies_of, spelled-assembled, bodies_of-free}
 
 -- ---- a section that may be left out
 
@@ -44,16 +44,14 @@ parts_spell p source h = record {
   ops = h.ops ∙ spelled_in spelled_symbol source.ops;
   vars = h.vars ∙ spelled_in spelled_name source.vars;
   system = h.system;
-  automaton = h.automaton;
-  states = h.states;
-  finals = h.finals;
-  transitions = h.transitions;
+  initial = h.initial;
+  forbidden = h.forbidden;
 }
 
 -- where the tokens spell allowed declarations, a cut answers with parts that spell them
 pub cut_spells : (lexemes : List Lexeme) (result : Option Sections) → ((b : Bodies) → AreBodies b → glyphs_of lexemes ≡ assembled b → IsSomeAnd result (λ p. Shows p b)) → (source : Source) → IsAllowed source → glyphs_of lexemes ≡ spelled source → IsSomeAnd result (λ p. PartsSpell p source)
-cut_spells lexemes None only source allowed e = only (bodies_of source) (bodies_of-free source allowed) e
-cut_spells lexemes (Some p) only source allowed e = parts_spell p source (only (bodies_of source) (bodies_of-free source allowed) e)
+cut_spells lexemes None only source allowed e = only (bodies_of source) (bodies_of-free source allowed) (e ∙ spelled-assembled source)
+cut_spells lexemes (Some p) only source allowed e = parts_spell p source (only (bodies_of source) (bodies_of-free source allowed) (e ∙ spelled-assembled source))
 
 -- the same declarations, with these sections that may be left out
 abbrev pub with_optional : Source → Option (List SymbolDeclaration) → Option (List Text) → Source
@@ -81,16 +79,14 @@ whole_spells lexemes p source cut parts =
     ≡ spelled_all (spelled_rule (signature_in source) (variables_in source)) source.rules =
     λ i. spelled_all (spelled_rule (signature_of (symbols_are i)) (variables_are i)) source.rules in
     let system_at = ap (λ rules. word source.system ∷ rules) rules_at ∙ (sym parts.system ∙ cut.shown.system) in
-    let automaton_at = sym parts.automaton ∙ cut.shown.automaton in
-    let states_at = sym parts.states ∙ cut.shown.states in
-    let finals_at = sym parts.finals ∙ cut.shown.finals in
-    let transitions_at = sym parts.transitions ∙ cut.shown.transitions in
-    let same : bodies_of (with_optional source (declared_at b.ops (symbols_in source)) (declared_at b.vars (variables_in source))) ≡ b =
-    λ i. record { ops = ops_at i; vars = vars_at i; system = system_at i; automaton = automaton_at i; states = states_at i; finals = finals_at i; transitions = transitions_at i } in
+    let initial_at = sym parts.initial ∙ cut.shown.initial in
+    let forbidden_at = sym parts.forbidden ∙ cut.shown.forbidden in
+    let declared = with_optional source (declared_at b.ops (symbols_in source)) (declared_at b.vars (variables_in source)) in
+    let same : bodies_of declared ≡ b = λ i. record { ops = ops_at i; vars = vars_at i; system = system_at i; initial = initial_at i; forbidden = forbidden_at i } in
     record {
-      ops = declared_at b.ops (symbols_in source);
-      vars = declared_at b.vars (variables_in source);
-      tokens = cut.whole ∙ ap assembled (sym same);
+      ops = declared.ops;
+      vars = declared.vars;
+      tokens = cut.whole ∙ (ap assembled (sym same) ∙ sym (spelled-assembled declared));
       symbols_are = symbols_are;
       variables_are = variables_are;
     }

@@ -63,6 +63,16 @@ Next-from_all spelled h done ds glyphs rest e f some =
     let l = Left-from_all spelled h done ds rest (sym e ∙ f) in
     next_of spelled done ds l.more rest l.split l.spells some
 
+-- one spelling, one list of declarations
+pub same_all : {D : Type 0} (spelled : D → List Glyph) → IsDecodable spelled → (ds es : List D) → spelled_all spelled ds ≡ spelled_all spelled es → ds ≡ es
+same_all spelled h [] [] e = refl
+same_all spelled h [] (x ∷ es) e = absurd (not_empty (spelled x) (spelled_all spelled es) (h.some x) (sym e))
+same_all spelled h (d ∷ ds) [] e = absurd (not_empty (spelled d) (spelled_all spelled ds) (h.some d) e)
+same_all spelled h (d ∷ ds) (x ∷ es) e =
+    let p = h.same d x (spelled_all spelled ds) (spelled_all spelled es) e in
+    let rest = same_all spelled h ds es p.1 in
+    λ i. p.0 i ∷ rest i
+
 -- ---- the spellings of one declaration
 
 pub same_word : (a b : Text) → word a ≡ word b → a ≡ b

@@ -1,48 +1,66 @@
 -- What the verdicts of `run` rest on.
-use Rattle.std.proofs.Common.{◌≡◌, ℕ, ◌≤◌, List, [], Option, Some, None, IfSome, length, arith, map, ap, sym, subst, inl, refl, codes}
-use Rattle.std.specs.List.{Contains, All}
+use Rattle.std.proofs.Common.{◌≡◌, ℕ, ◌≤◌, List, Option, Some, None, IfSome, IsTrue, Bool, Result, Ok, Err, IfOk, ◌↔◌, length, arith, map, sym, subst, inl, refl, codes}
+use Rattle.std.specs.List.{All, range_with_len}
 use Rattle.std.proofs.lemmas.List.Elements.{All-map, All-weaker}
-use Rattle.ranked_terms.specs.declared.term.Term.{Term}
-use Rattle.trs_rules.specs.Rules.{IsRule}
+use Rattle.std.specs.declared.alloc.AllocError.{AllocError}
+use Rattle.trs_rules.specs.Rules.{RewriteRule, IsRule}
 use Rattle.ranked_terms.specs.Names.{Symbol}
-use Rattle.ta_core.specs.TreeAutomaton.{TreeAutomaton, IsSound}
+use Rattle.ta_core.specs.TreeAutomaton.{IsSound}
+use Rattle.ta_core.specs.SpecRules.{automaton_is_over}
 use Rattle.ta_core.specs.Closure.{Closed}
+use Rattle.ta_core.proofs.Acceptance.{accepted_terms_are_over, accepted_is_safe}
 use Rattle.ta_core.proofs.Closure.{closed_accepts_reached}
-use Rattle.ta_core.specs.Languages.{Accepts}
+use Rattle.ta_core.proofs.Containment.{contains_itself}
 use Rattle.ta_core.specs.declared.spec.Spec.{Spec}
+use Rattle.timbuk_cli.specs.Meeting.{HaveNoCommonTerm}
 use Rattle.timbuk_cli.specs.Glyphs.{Text}
 use Rattle.timbuk_cli.specs.Words.{file_of}
 use Rattle.timbuk_cli.specs.Source.{RuleDeclaration}
 use Rattle.timbuk_cli.specs.SpecText.{SpecText, IsAllowedRule, rule_of}
 use Rattle.timbuk_cli.proofs.OneSpec.{one_spec}
-use Rattle.timbuk_cli.specs.Output.{IsSafe, Decides, Judges, Says, Answers, limit, line}
+use Rattle.timbuk_cli.specs.Output.{SettlesItself, IsSafe, Decides, Judges, Says, Answers, limit, line}
 use Rattle.timbuk_cli.specs.declared.status.Status.{Status}
 use Rattle.timbuk_cli.specs.declared.status.Status.TheVariants.{Unreachable, Undecided, BadWords, BadSpec, TooLong, ReadFault, WriteFault, Memory}
-
--- an automaton without final states accepts nothing
-accepts_nothing : (A : TreeAutomaton) (t : Term) → A.finals ≡ [] → Accepts A t → ⊥
-accepts_nothing A t none accepted = let final = subst (λ qs. Contains qs accepted.state) none accepted.final in omega (arith, final.1)
 
 -- the rules of a text are rules
 rules_are_rules : (declarations : List RuleDeclaration) (signature : List Symbol) (count : ℕ) → All (IsAllowedRule signature count) declarations → All IsRule (map rule_of declarations)
 rules_are_rules declarations signature count allowed = All-map IsRule rule_of declarations (All-weaker (IsAllowedRule signature count) (λ d. IsRule (rule_of d)) (λ d h. h.is_rule) declarations allowed)
 
--- where the initial automaton is closed, it accepts what is reachable; nothing is forbidden by a text with one automaton
-pub closed_is_safe : (bytes : List ℕ) (spec : Spec) → SpecText bytes spec → IsSound spec.initial → Closed spec.initial spec.rules → IsSafe bytes
-closed_is_safe bytes spec text sound closed = record {
-  spec = spec;
-  text = text;
-  closed = closed;
-  accepted = λ t reachable.
-      let rules = subst (All IsRule) (sym text.declares.rules) (rules_are_rules text.source.rules _ _ text.allowed.rules.allowed) in
-      closed_accepts_reached spec.initial spec.rules sound rules closed reachable.start t reachable.begins.accepted reachable.leads;
-  safe = λ t reachable forbidden. accepts_nothing spec.forbidden t (ap (λ (A : TreeAutomaton). A.finals) text.declares.forbidden) forbidden.accepted;
-}
+-- where the initial automaton is closed and misses the forbidden language, it settles the question
+pub settled_by : (spec : Spec) → IsSound spec.initial → Closed spec.initial spec.rules → HaveNoCommonTerm spec.initial spec.forbidden → SettlesItself spec
+settled_by spec sound closed misses =
+    record { contained = contains_itself spec.initial sound; closed = closed; misses = λ t one other. misses t one.accepted other.accepted }
+
+-- a test of closure is a test of this, where the initial automaton misses the forbidden language
+pub settles_by_both : (spec : Spec) → IsSound spec.initial → HaveNoCommonTerm spec.initial spec.forbidden → (rules : List RewriteRule) → rules ≡ spec.rules → (result : Result Bool AllocError) → IfOk result (λ yes. IsTrue yes ↔ Closed spec.initial rules) → IfOk result (λ yes. IsTrue yes ↔ SettlesItself spec)
+settles_by_both spec sound misses rules are (Ok answer) exact = (
+  λ t. settled_by spec sound (subst (Closed spec.initial) are (exact.0 t)) misses,
+  λ settles. exact.1 (subst (Closed spec.initial) (sym are) settles.closed),
+)
+settles_by_both spec sound misses rules are (Err e) exact = tt
+
+-- where it doesn't miss the forbidden language, it settles nothing
+pub meets_unsettled : (spec : Spec) → IsTrue (automaton_is_over spec.signature spec.initial) → (HaveNoCommonTerm spec.initial spec.forbidden → ⊥) → SettlesItself spec → ⊥
+meets_unsettled spec over meets settles = meets (λ t one other.
+    let is_over = accepted_terms_are_over spec.signature spec.initial over t one in
+    settles.misses t (record { over = is_over; accepted = one }) (record { over = is_over; accepted = other }))
+
+-- where the initial automaton settles the question, it accepts what is reachable, and no such term is forbidden
+pub settled_is_safe : (bytes : List ℕ) (spec : Spec) → SpecText bytes spec → IsSound spec.initial → SettlesItself spec → IsSafe bytes
+settled_is_safe bytes spec text sound settles =
+    let rules = subst (All IsRule) (sym text.declares.rules) (rules_are_rules text.source.rules _ _ text.allowed.rules.allowed) in
+    record {
+      spec = spec;
+      text = text;
+      settles = settles;
+      accepted = λ t reachable. closed_accepts_reached spec.initial spec.rules sound rules settles.closed reachable.start t reachable.begins.accepted reachable.leads;
+      safe = accepted_is_safe spec spec.initial (range_with_len 0 spec.initial.next) sound rules settles;
+    }
 
 -- the verdict on a specification is the verdict on its text
 pub judged_by : (bytes : List ℕ) (spec : Spec) → SpecText bytes spec → IsSound spec.initial → (status : Status) → Decides spec status → Judges bytes status
-judged_by bytes spec text sound Unreachable closed = closed_is_safe bytes spec text sound closed
-judged_by bytes spec text sound Undecided open_rules = record { spec = spec; text = text; open_rules = open_rules }
+judged_by bytes spec text sound Unreachable settles = settled_is_safe bytes spec text sound settles
+judged_by bytes spec text sound Undecided unsettled = record { spec = spec; text = text; unsettled = unsettled }
 judged_by bytes spec text sound BadWords none = absurd none
 judged_by bytes spec text sound BadSpec none = absurd none
 judged_by bytes spec text sound TooLong none = absurd none
@@ -50,11 +68,9 @@ judged_by bytes spec text sound ReadFault none = absurd none
 judged_by bytes spec text sound WriteFault none = absurd none
 judged_by bytes spec text sound Memory none = absurd none
 
--- two specifications of one text are closed or open together
-same_closed : (bytes : List ℕ) (a b : Spec) → SpecText bytes a → SpecText bytes b → Closed a.initial a.rules → Closed b.initial b.rules
-same_closed bytes a b text other closed =
-    let same = one_spec bytes a b text other in
-    subst (λ (s : Spec). Closed s.initial s.rules) same closed
+-- two specifications of one text settle the question together
+same_settled : (bytes : List ℕ) (a b : Spec) → SpecText bytes a → SpecText bytes b → SettlesItself a → SettlesItself b
+same_settled bytes a b text other settles = subst SettlesItself (one_spec bytes a b text other) settles
 
 module _ (words : List Text) (given : Text → Option (List ℕ)) (name : Text) (is : file_of words ≡ Some name) where
   -- a fact of what is told of the file, at these bytes
@@ -71,33 +87,33 @@ module _ (words : List Text) (given : Text → Option (List ℕ)) (name : Text) 
     bad_words = λ none. absurd (named none);
     too_long = λ other bytes file tells long. absurd (omega (arith, (told _ other bytes file tells says.0).0));
     bad_spec = λ other bytes file tells short none. let safe = (told _ other bytes file tells says.0).1 in absurd (none safe.spec safe.text);
-    unreachable = λ other bytes spec file tells short text closed. inl refl;
-    undecided = λ other bytes spec file tells short text open_rules.
+    unreachable = λ other bytes spec file tells short text settles. inl refl;
+    undecided = λ other bytes spec file tells short text unsettled.
         let safe = (told _ other bytes file tells says.0).1 in
-        absurd (open_rules (same_closed bytes safe.spec spec safe.text text safe.closed));
+        absurd (unsettled (same_settled bytes safe.spec spec safe.text text safe.settles));
   }
   answers rose text Undecided quiet says = record {
     bad_words = λ none. absurd (named none);
     too_long = λ other bytes file tells long. absurd (omega (arith, (told _ other bytes file tells says.0).0));
     bad_spec = λ other bytes file tells short none. let found = (told _ other bytes file tells says.0).1 in absurd (none found.spec found.text);
-    unreachable = λ other bytes spec file tells short text closed.
+    unreachable = λ other bytes spec file tells short text settles.
         let found = (told _ other bytes file tells says.0).1 in
-        absurd (found.open_rules (same_closed bytes spec found.spec text found.text closed));
-    undecided = λ other bytes spec file tells short text open_rules. inl refl;
+        absurd (found.unsettled (same_settled bytes spec found.spec text found.text settles));
+    undecided = λ other bytes spec file tells short text unsettled. inl refl;
   }
   answers rose text BadSpec quiet says = record {
     bad_words = λ none. absurd (named none);
     too_long = λ other bytes file tells long. absurd (omega (arith, (told _ other bytes file tells says.0).0));
     bad_spec = λ other bytes file tells short none. inl refl;
-    unreachable = λ other bytes spec file tells short text closed. absurd ((told _ other bytes file tells says.0).1 spec text);
-    undecided = λ other bytes spec file tells short text open_rules. absurd ((told _ other bytes file tells says.0).1 spec text);
+    unreachable = λ other bytes spec file tells short text settles. absurd ((told _ other bytes file tells says.0).1 spec text);
+    undecided = λ other bytes spec file tells short text unsettled. absurd ((told _ other bytes file tells says.0).1 spec text);
   }
   answers rose text TooLong quiet says = record {
     bad_words = λ none. absurd (named none);
     too_long = λ other bytes file tells long. inl refl;
     bad_spec = λ other bytes file tells short none. absurd (omega (arith, told _ other bytes file tells says.0));
-    unreachable = λ other bytes spec file tells short text closed. absurd (omega (arith, told _ other bytes file tells says.0));
-    undecided = λ other bytes spec file tells short text open_rules. absurd (omega (arith, told _ other bytes file tells says.0));
+    unreachable = λ other bytes spec file tells short text settles. absurd (omega (arith, told _ other bytes file tells says.0));
+    undecided = λ other bytes spec file tells short text unsettled. absurd (omega (arith, told _ other bytes file tells says.0));
   }
   answers rose text ReadFault quiet says = absurd (quiet says.0)
   answers rose text BadWords quiet says = absurd says

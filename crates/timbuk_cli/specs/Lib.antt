@@ -12,3 +12,7 @@ pub mod Reading
 pub mod Parts
 pub mod Reads
 pub mod Closing
+pub mod Meeting
+pub mod Slots
+pub mod Uses
+pub mod Products

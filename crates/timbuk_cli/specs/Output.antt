@@ -1,10 +1,11 @@
 -- What the program answers and writes, by its words and by what its file has. This project's own.
 use Rattle.std.specs.Prelude.{◌≡◌, ◌⊎◌, ℕ, ◌≤◌, ◌<◌, List, [], ◌∷◌, ◌++◌, Option, Some, None, IsSome, IfSome, length, take, codes}
+use Rattle.std.specs.List.{range_with_len}
 use Rattle.std.specs.Io.KnownBytes.{Appends, Keeps}
 use Rattle.ranked_terms.specs.declared.term.Term.{Term}
 use Rattle.ta_core.specs.declared.spec.Spec.{Spec}
 use Rattle.ta_core.specs.Languages.{Accepts}
-use Rattle.ta_core.specs.Closure.{Closed}
+use Rattle.ta_core.specs.Acceptance.{IsAccepted}
 use Rattle.ta_core.specs.Reachability.{Reachable, Forbidden}
 use Rattle.timbuk_cli.specs.Glyphs.{Text}
 use Rattle.timbuk_cli.specs.Words.{file_of}
@@ -18,20 +19,24 @@ limit = 1048576
 
 -- ---- what is said of a file
 
--- the bytes are a specification whose initial automaton is closed under its rules; it accepts whatever is reachable by them, in whatever number of
--- steps, and no such term is forbidden
+-- The initial automaton settles the question as it stands: with the map that moves no state, it contains the initial automaton, is closed under the
+-- rules and misses the forbidden language.
+abbrev pub SettlesItself : Spec → Type 0
+SettlesItself spec = IsAccepted spec spec.initial (range_with_len 0 spec.initial.next)
+
+-- the bytes are a specification whose initial automaton settles the question; so no term that is reachable, in whatever number of steps, is forbidden
 pub record IsSafe (bytes : List ℕ) : Type 0 where
   pub spec : Spec
   pub text : SpecText bytes spec
-  pub closed : Closed spec.initial spec.rules
+  pub settles : SettlesItself spec
   pub accepted : (t : Term) → Reachable spec t → Accepts spec.initial t
   pub safe : (t : Term) → Reachable spec t → Forbidden spec t → ⊥
 
--- the bytes are a specification whose initial automaton isn't closed under its rules
+-- the bytes are a specification whose initial automaton settles nothing
 pub record IsUnsettled (bytes : List ℕ) : Type 0 where
   pub spec : Spec
   pub text : SpecText bytes spec
-  pub open_rules : Closed spec.initial spec.rules → ⊥
+  pub unsettled : SettlesItself spec → ⊥
 
 -- the bytes are no specification
 abbrev pub IsNoSpec : List ℕ → Type 0
@@ -39,8 +44,8 @@ IsNoSpec bytes = (spec : Spec) → SpecText bytes spec → ⊥
 
 -- the status of a specification
 abbrev pub Decides : Spec → Status → Type 0
-Decides spec Unreachable = Closed spec.initial spec.rules
-Decides spec Undecided = Closed spec.initial spec.rules → ⊥
+Decides spec Unreachable = SettlesItself spec
+Decides spec Undecided = SettlesItself spec → ⊥
 Decides spec _ = ⊥
 
 -- the status that the bytes of a file have
@@ -92,5 +97,5 @@ pub record Answers (words : List Text) (given : Text → Option (List ℕ)) (ans
   pub bad_words : file_of words ≡ None → answer ≡ BadWords
   pub too_long : (name : Text) (bytes : List ℕ) → file_of words ≡ Some name → given name ≡ Some bytes → limit < length bytes → IsOrMemory TooLong answer
   pub bad_spec : (name : Text) (bytes : List ℕ) → file_of words ≡ Some name → given name ≡ Some bytes → length bytes ≤ limit → IsNoSpec bytes → IsOrMemory BadSpec answer
-  pub unreachable : (name : Text) (bytes : List ℕ) (spec : Spec) → file_of words ≡ Some name → given name ≡ Some bytes → length bytes ≤ limit → SpecText bytes spec → Closed spec.initial spec.rules → IsOrMemory Unreachable answer
-  pub undecided : (name : Text) (bytes : List ℕ) (spec : Spec) → file_of words ≡ Some name → given name ≡ Some bytes → length bytes ≤ limit → SpecText bytes spec → (Closed spec.initial spec.rules → ⊥) → IsOrMemory Undecided answer
+  pub unreachable : (name : Text) (bytes : List ℕ) (spec : Spec) → file_of words ≡ Some name → given name ≡ Some bytes → length bytes ≤ limit → SpecText bytes spec → SettlesItself spec → IsOrMemory Unreachable answer
+  pub undecided : (name : Text) (bytes : List ℕ) (spec : Spec) → file_of words ≡ Some name → given name ≡ Some bytes → length bytes ≤ limit → SpecText bytes spec → (SettlesItself spec → ⊥) → IsOrMemory Undecided answer

@@ -1,5 +1,5 @@
 -- What the readers of declarations answer. This project's own.
-use Rattle.std.specs.Prelude.{◌≡◌, ◌≢◌, ℕ, zero, suc, ◌-◌, List, [], ◌∷◌, ◌++◌, All, Contains, map, length, codes}
+use Rattle.std.specs.Prelude.{◌≡◌, ◌≢◌, ℕ, zero, suc, ◌-◌, List, [], ◌∷◌, ◌++◌, Option, IfSome, All, Contains, map, length, codes, option_map}
 use Rattle.ranked_terms.specs.Names.{Symbol}
 use Rattle.ranked_terms.specs.declared.term.Pattern.{Pattern}
 use Rattle.ta_core.specs.TreeAutomaton.{TreeAutomaton}
@@ -7,8 +7,9 @@ use Rattle.trs_rules.specs.Rules.{RewriteRule}
 use Rattle.timbuk_lex.specs.declared.lexeme.Lexeme.{Lexeme}
 use Rattle.timbuk_cli.specs.Vocabulary.{IsName}
 use Rattle.timbuk_cli.specs.Glyphs.{Text, Glyph, word, mark, glyphs_of, HasWord}
-use Rattle.timbuk_cli.specs.Source.{TransitionDeclaration, RuleDeclaration, spelled_name, spelled_pattern, spelled_patterns, spelled_rule, spelled_transition, spelled_all}
-use Rattle.timbuk_cli.specs.SpecText.{IsAllowedPattern, IsAllowedTransition, AreRules, Numbers, rule_of}
+use Rattle.timbuk_cli.specs.Source.{RuleDeclaration, AutomatonDeclaration, spelled_pattern, spelled_patterns, spelled_rule, spelled_all}
+use Rattle.timbuk_cli.specs.SpecText.{IsAllowedPattern, IsAllowedAutomaton, AreRules, Numbers, NumbersForbidden, rule_of}
+use Rattle.timbuk_cli.specs.Sections.{AutomatonBodies, automaton_bodies}
 
 -- ---- one declaration
 
@@ -114,18 +115,26 @@ pub record ReadsTitle (lexemes rest : List Lexeme) : Type 0 where
 pub record LacksTitle (lexemes : List Lexeme) : Type 0 where
   pub none : (title : Text) (rest : List Glyph) → IsName title → glyphs_of lexemes ≢ word title ∷ rest
 
--- ---- the automaton
+-- ---- the automata
 
--- the tokens spell allowed final states and transitions, which number this automaton
-pub record ReadsAutomaton (signature : List Symbol) (states : List Text) (finals transitions : List Lexeme) (automaton : TreeAutomaton) : Type 0 where
-  pub names : List Text
-  pub declarations : List TransitionDeclaration
-  pub spelled_finals : glyphs_of finals ≡ spelled_all spelled_name names
-  pub spelled_transitions : glyphs_of transitions ≡ spelled_all spelled_transition declarations
-  pub are_states : All (Contains states) names
-  pub are_allowed : All (IsAllowedTransition signature states) declarations
-  pub numbers : Numbers signature states names declarations automaton
+-- the bodies spell an allowed automaton, and this one is what it numbers
+pub record ReadsAutomaton (signature : List Symbol) (taken : List Text) (bodies : AutomatonBodies) (automaton : TreeAutomaton) : Type 0 where
+  pub declaration : AutomatonDeclaration
+  pub spelled : bodies ≡ automaton_bodies declaration
+  pub allowed : IsAllowedAutomaton signature taken declaration
+  pub numbers : Numbers signature declaration automaton
 
--- the tokens spell no allowed final states, or no allowed transitions
-pub record LacksAutomaton (signature : List Symbol) (states : List Text) (finals transitions : List Lexeme) : Type 0 where
-  pub none : (names : List Text) (declarations : List TransitionDeclaration) → All (Contains states) names → All (IsAllowedTransition signature states) declarations → glyphs_of finals ≡ spelled_all spelled_name names → glyphs_of transitions ≢ spelled_all spelled_transition declarations
+-- the bodies spell no allowed automaton
+pub record LacksAutomaton (signature : List Symbol) (taken : List Text) (bodies : AutomatonBodies) : Type 0 where
+  pub none : (declaration : AutomatonDeclaration) → IsAllowedAutomaton signature taken declaration → bodies ≢ automaton_bodies declaration
+
+-- the same of the second automaton, which may be left out
+pub record ReadsForbidden (signature : List Symbol) (taken : List Text) (bodies : Option AutomatonBodies) (automaton : TreeAutomaton) : Type 0 where
+  pub declaration : Option AutomatonDeclaration
+  pub spelled : bodies ≡ option_map automaton_bodies declaration
+  pub allowed : IfSome declaration (IsAllowedAutomaton signature taken)
+  pub numbers : NumbersForbidden signature declaration automaton
+
+-- the bodies spell neither an allowed automaton nor that it is left out
+pub record LacksForbidden (signature : List Symbol) (taken : List Text) (bodies : Option AutomatonBodies) : Type 0 where
+  pub none : (declaration : Option AutomatonDeclaration) → IfSome declaration (IsAllowedAutomaton signature taken) → bodies ≢ option_map automaton_bodies declaration

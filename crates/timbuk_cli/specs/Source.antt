@@ -23,16 +23,21 @@ pub record TransitionDeclaration : Type 0 where
   pub args : List Text
   pub target : Text
 
--- what a specification with one automaton declares, in the order of the text; `Ops` and `Vars` may be left out
+-- an automaton: its title, its states, its final states and its transitions
+pub record AutomatonDeclaration : Type 0 where
+  pub title : Text
+  pub states : List Text
+  pub finals : List Text
+  pub transitions : List TransitionDeclaration
+
+-- what a specification declares, in the order of the text; `Ops`, `Vars` and the second automaton may be left out
 pub record Source : Type 0 where
   pub ops : Option (List SymbolDeclaration)
   pub vars : Option (List Text)
   pub system : Text
   pub rules : List RuleDeclaration
-  pub automaton : Text
-  pub states : List Text
-  pub finals : List Text
-  pub transitions : List TransitionDeclaration
+  pub initial : AutomatonDeclaration
+  pub forbidden : Option AutomatonDeclaration
 
 abbrev pub symbols_in : Source → List SymbolDeclaration
 symbols_in source = unwrap_or source.ops []
@@ -53,6 +58,10 @@ signature_in source = signature_of (symbols_in source)
 
 abbrev pub symbol_names : Source → List Text
 symbol_names source = names_of (signature_in source)
+
+-- the names that no state may have
+abbrev pub taken_names : Source → List Text
+taken_names source = symbol_names source ++ variables_in source
 
 -- ---- spelling
 
@@ -109,13 +118,18 @@ abbrev pub optional_section : Text → Option (List Glyph) → List Glyph
 optional_section title None = []
 optional_section title (Some body) = section title body
 
+abbrev pub spelled_automaton : AutomatonDeclaration → List Glyph
+spelled_automaton d =
+    section (codes "Automaton") (word d.title ∷ [])
+    ++ (section (codes "States") (spelled_all spelled_name d.states)
+    ++ (section (codes "Final") []
+    ++ (section (codes "States") (spelled_all spelled_name d.finals)
+    ++ section (codes "Transitions") (spelled_all spelled_transition d.transitions))))
+
 abbrev pub spelled : Source → List Glyph
 spelled source =
     optional_section (codes "Ops") (option_map (spelled_all spelled_symbol) source.ops)
     ++ (optional_section (codes "Vars") (option_map (spelled_all spelled_name) source.vars)
     ++ (section (codes "TRS") (word source.system ∷ spelled_all (spelled_rule (signature_in source) (variables_in source)) source.rules)
-    ++ (section (codes "Automaton") (word source.automaton ∷ [])
-    ++ (section (codes "States") (spelled_all spelled_name source.states)
-    ++ (section (codes "Final") []
-    ++ (section (codes "States") (spelled_all spelled_name source.finals)
-    ++ section (codes "Transitions") (spelled_all spelled_transition source.transitions)))))))
+    ++ (spelled_automaton source.initial
+    ++ unwrap_or (option_map spelled_automaton source.forbidden) [])))

@@ -1,5 +1,5 @@
--- Which declarations are allowed, what they number, and which bytes are a specification with one automaton. This project's own format.
-use Rattle.std.specs.Prelude.{◌≡◌, ℕ, ◌≤◌, ◌<◌, ◌↔◌, ◌==◌, ◌&&◌, ◌||◌, Bool, false, List, [], ◌∷◌, ◌++◌, Some, IsTrue, All, Contains, map, length, slice_index}
+-- Which declarations are allowed, what they number, and which bytes are a specification. This project's own format.
+use Rattle.std.specs.Prelude.{◌≡◌, ℕ, ◌≤◌, ◌<◌, ◌↔◌, ◌==◌, ◌&&◌, ◌||◌, Bool, false, List, [], ◌∷◌, ◌++◌, Option, Some, None, IsTrue, IfSome, All, Contains, map, length, slice_index}
 use Rattle.std.specs.List.{list_all, IsDistinct, position_or_len, range_with_len}
 use Rattle.std.specs.List.Sorted.{IsStrictlySortedBy}
 use Rattle.std.specs.Ordering.{nat_cmp}
@@ -18,8 +18,8 @@ use Rattle.timbuk_lex.specs.Lexing.{lexed}
 use Rattle.timbuk_lex.specs.declared.lex.Ending.TheVariants.{Whole}
 use Rattle.timbuk_cli.specs.Vocabulary.{IsName}
 use Rattle.timbuk_cli.specs.Glyphs.{Text, glyphs_of}
-use Rattle.timbuk_cli.specs.Source.{SymbolDeclaration, RuleDeclaration, TransitionDeclaration, Source, symbols_in, variables_in, signature_in, spelled}
-pub use Rattle.timbuk_cli.specs.Source.{value_of, signature_of, symbol_names}
+use Rattle.timbuk_cli.specs.Source.{SymbolDeclaration, RuleDeclaration, TransitionDeclaration, AutomatonDeclaration, Source, symbols_in, variables_in, signature_in, spelled}
+pub use Rattle.timbuk_cli.specs.Source.{value_of, signature_of, symbol_names, taken_names}
 
 -- ---- what is allowed
 
@@ -69,15 +69,21 @@ pub record AreNewNames (taken : List Text) (limit : ℕ) (new : List Text) : Typ
   pub distinct : IsDistinct bytes_eq (taken ++ new)
   pub few : length new ≤ limit
 
--- names that are names, each declared once; small enough; and each used as what it is
+-- a title; states whose names are not taken; final states that are states, and allowed transitions
+pub record IsAllowedAutomaton (signature : List Symbol) (taken : List Text) (d : AutomatonDeclaration) : Type 0 where
+  pub title : IsName d.title
+  pub states : AreNewNames taken 16384 d.states
+  pub finals : All (Contains d.states) d.finals
+  pub transitions : All (IsAllowedTransition signature d.states) d.transitions
+
+-- names that are names, each declared once; small enough; and each used as what it is. The second automaton may have names of states of the first
 pub record IsAllowed (source : Source) : Type 0 where
-  pub titles : IsName source.system × IsName source.automaton
+  pub title : IsName source.system
   pub symbols : AreSymbols (symbols_in source)
   pub variables : AreNewNames (symbol_names source) 1024 (variables_in source)
   pub rules : AreRules (signature_in source) (length (variables_in source)) source.rules
-  pub states : AreNewNames (symbol_names source ++ variables_in source) 16384 source.states
-  pub finals : All (Contains source.states) source.finals
-  pub transitions : All (IsAllowedTransition (signature_in source) source.states) source.transitions
+  pub initial : IsAllowedAutomaton (signature_in source) (taken_names source) source.initial
+  pub forbidden : IfSome source.forbidden (IsAllowedAutomaton (signature_in source) (taken_names source))
 
 -- ---- what it numbers
 
@@ -94,14 +100,19 @@ pub record IsAscendingSet {X : Type 0} (cmp : X → X → Ordering) (xs ys : Lis
   pub members : (x : X) → Contains xs x ↔ Contains ys x
 
 -- the states are numbered in their order; a transition or a final state that stands twice counts once
-pub record Numbers (signature : List Symbol) (states finals : List Text) (transitions : List TransitionDeclaration) (automaton : TreeAutomaton) : Type 0 where
-  pub states_are : automaton.states ≡ range_with_len 0 (length states)
-  pub next_is : automaton.next ≡ length states
-  pub finals_are : IsAscendingSet nat_cmp automaton.finals (map (place_in states) finals)
-  pub trans_are : IsAscendingSet trans_cmp automaton.trans (map (transition_of signature states) transitions)
+pub record Numbers (signature : List Symbol) (d : AutomatonDeclaration) (automaton : TreeAutomaton) : Type 0 where
+  pub states_are : automaton.states ≡ range_with_len 0 (length d.states)
+  pub next_is : automaton.next ≡ length d.states
+  pub finals_are : IsAscendingSet nat_cmp automaton.finals (map (place_in d.states) d.finals)
+  pub trans_are : IsAscendingSet trans_cmp automaton.trans (map (transition_of signature d.states) d.transitions)
   pub no_eps : automaton.eps ≡ []
 
--- the spec that the declarations spell: no equation or approximation, and nothing forbidden
+-- the second automaton, and the one without states where none is declared
+abbrev pub NumbersForbidden : List Symbol → Option AutomatonDeclaration → TreeAutomaton → Type 0
+NumbersForbidden signature None automaton = automaton ≡ bare 0 []
+NumbersForbidden signature (Some d) automaton = Numbers signature d automaton
+
+-- the spec that the declarations spell: no equation or approximation; the first automaton is the initial one, the second the forbidden one
 pub record Declares (source : Source) (spec : Spec) : Type 0 where
   pub signature : spec.signature ≡ signature_in source
   pub vars : spec.vars ≡ variables_in source
@@ -110,8 +121,8 @@ pub record Declares (source : Source) (spec : Spec) : Type 0 where
   pub entries : spec.entries ≡ []
   pub extra : spec.extra ≡ 0
   pub approximated : spec.approximated ≡ false
-  pub initial : Numbers (signature_in source) source.states source.finals source.transitions spec.initial
-  pub forbidden : spec.forbidden ≡ bare 0 []
+  pub initial : Numbers (signature_in source) source.initial spec.initial
+  pub forbidden : NumbersForbidden (signature_in source) source.forbidden spec.forbidden
 
 -- ---- the text
 
@@ -120,7 +131,7 @@ abbrev pub has_comment : List ℕ → Bool
 has_comment [] = false
 has_comment (b ∷ rest) = (b == 40 && slice_index rest 0 == 42) || has_comment rest
 
--- The bytes are a specification with one automaton that spells this spec. Quoted texts have no place in it, so where it has no `(*` it has no comment.
+-- The bytes are a specification that spells this spec. Quoted texts have no place in it, so where it has no `(*` it has no comment.
 pub record SpecText (bytes : List ℕ) (spec : Spec) : Type 0 where
   pub source : Source
   pub plain : has_comment bytes ≡ false

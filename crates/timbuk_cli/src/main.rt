@@ -10,6 +10,7 @@ ghost use Rattle.std.specs.IoError.{error_kind};
 
 mod closure;
 pub mod laws;
+mod missing;
 pub mod reader;
 pub mod run;
 pub mod status;

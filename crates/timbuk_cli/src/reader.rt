@@ -1,8 +1,8 @@
-//! The reader of specifications with one rewriting system and one automaton.
+//! The reader of specifications with one rewriting system and one or two automata.
 //!
 //! The text is cut into tokens (`timbuk_lex`), these at the section words (`sections`), and each part is read by a module of
 //! its own. Each byte and each token is looked at a bounded number of times; names are found by their hashes, and the
-//! automaton's lists are sorted once.
+//! lists of an automaton are sorted once.
 ghost use Rattle.std.specs.Prelude.{◌≡◌, ◌<◌, ◌-◌, ◌^◌, IfOk, IsErrOf, length};
 ghost use Rattle.timbuk_cli.specs.Source.{Source};
 ghost use Rattle.timbuk_cli.specs.SpecText.{SpecText, IsAllowed};
@@ -18,24 +18,17 @@ mod pattern;
 mod rules;
 mod sections;
 mod symbols;
+mod system;
 mod transition;
 
-use automaton::read_automaton;
+use automaton::{read_automaton, read_forbidden};
 use comment::has_comment;
-use names::{NameTable, after_title, read_names, read_title};
 use ranked_terms::Seq;
-use rules::read_rules;
 use sections::{Sections, cut};
 use std::alloc::{AllocError, Global};
-use symbols::read_symbols;
-use ta_core::{Automaton, Spec};
+use system::read_system;
+use ta_core::Spec;
 use timbuk_lex::{Ending, lex_of};
-
-/// The largest number of variables that a text declares.
-const MAX_VARIABLES: usize = 1024;
-
-/// The largest number of states of an automaton.
-const MAX_STATES: usize = 16384;
 
 /// Why no specification was read.
 #[derive(Clone, Copy, Debug, PartialEq, Eq)]
@@ -60,32 +53,19 @@ fn read_sections(alloc: Global, sections: &Sections) -> Result<Spec, SpecError>
     ensures found { IfOk result (λ spec. ReadsParts sections.now spec) }
     ensures unread { IsErrOf result SpecError.Unread → (source : Source) → IsAllowed source → PartsSpell sections.now source → ⊥ }
 {
-    let rules = after_title(sections.system).ok_or(SpecError::Unread)?;
-    if !read_title(sections.automaton) {
-        return Err(SpecError::Unread);
-    }
-    let signature = read_symbols(alloc, sections.ops)?;
-    let none = NameTable::new(alloc);
-    let vars = read_names(alloc, sections.vars, &signature, &none, MAX_VARIABLES)?;
-    let rules = read_rules(alloc, &signature, &vars, rules)?;
-    let states = read_names(alloc, sections.states, &signature, &vars, MAX_STATES)?;
-    let initial = read_automaton(
-        alloc,
-        &signature,
-        &states,
-        sections.finals,
-        sections.transitions,
-    )?;
+    let system = read_system(alloc, sections)?;
+    let initial = read_automaton(alloc, &system, &sections.initial)?;
+    let forbidden = read_forbidden(alloc, &system, sections.forbidden.as_ref())?;
     Ok(Spec {
-        vars: vars.to_names(alloc)?,
-        signature,
-        rules,
+        vars: system.variables.to_names(alloc)?,
+        signature: system.signature,
+        rules: system.rules,
         equations: Seq::new(alloc),
         entries: Seq::new(alloc),
         extra: 0,
         approximated: false,
         initial,
-        forbidden: Automaton::new(alloc),
+        forbidden,
     })
 }
 

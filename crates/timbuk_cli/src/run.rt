@@ -1,12 +1,13 @@
 //! The top call.
-ghost use Rattle.std.specs.Prelude.{◌≡◌, ◌≢◌, ℕ, List, ◌≤◌, ◌∷◌, ◌++◌, Some, IfOk, codes, length, map, string_bytes};
+ghost use Rattle.std.specs.Prelude.{◌≡◌, ◌≢◌, ◌↔◌, ℕ, List, ◌≤◌, ◌∷◌, ◌++◌, Some, IsTrue, IfOk, codes, length, map, string_bytes};
 ghost use Rattle.tim_io.specs.Causes.{Rose};
 ghost use Rattle.tim_io.specs.Shelves.{OthersStay};
 ghost use Rattle.ta_core.specs.TreeAutomaton.{IsSound};
 ghost use Rattle.timbuk_cli.specs.Words.{file_of};
-ghost use Rattle.timbuk_cli.specs.Output.{line, Decides, Judges, Says, Ran, Answers};
+ghost use Rattle.timbuk_cli.specs.Output.{SettlesItself, line, Decides, Judges, Says, Ran, Answers};
 
 use crate::closure::is_closed;
+use crate::missing::have_no_common_term;
 use crate::reader::{SpecError, read_spec};
 use crate::status::Status;
 use crate::words::file_word;
@@ -21,13 +22,26 @@ const MAX_SPEC: usize = 1048576;
 const USAGE: &str =
     "usage: timbuk complete FILE [OPTIONS] | check SPEC CERT | ta OP FILE [--limit N] | browse SPEC SCRIPT | sample N\n";
 
-/// The verdict on a specification: `Unreachable` exactly where its initial automaton is closed under its rules, and else
-/// `Undecided`. The only error is want of memory.
+/// Whether the initial automaton settles the question as it stands: it has no term in common with the forbidden automaton,
+/// which is looked at first, since it takes less time, and it is closed under the rules. The only error is want of memory.
+fn settles_itself(alloc: Global, spec: &Spec) -> Result<bool, AllocError>
+    ensures { IfOk result (λ yes. IsTrue yes ↔ SettlesItself spec.now) }
+{
+    if !have_no_common_term(alloc, &spec.initial, &spec.forbidden)? {
+        return Ok(false);
+    }
+    is_closed(alloc, &spec.initial, spec.rules.as_slice())
+}
+
+/// The verdict on a specification: `Unreachable` exactly where its initial automaton is closed under its rules and accepts
+/// no forbidden term, and else `Undecided`. The only error is want of memory.
 fn verdict(alloc: Global, spec: &Spec) -> Result<Status, AllocError>
     ensures exact { IfOk result (Decides spec.now) }
     ensures sound { IsSound spec.now.initial }
 {
-    if is_closed(alloc, &spec.initial, spec.rules.as_slice())? {
+    // Its contract says what holds of every automaton.
+    let _ = spec.initial.states();
+    if settles_itself(alloc, spec)? {
         Ok(Status::Unreachable)
     } else {
         Ok(Status::Undecided)
@@ -94,13 +108,13 @@ fn answer<F: Shelf>(
 
 /// Does what the words say, over the files of the shelf, and writes what there is to say to the sink.
 ///
-/// The words are exactly `complete FILE`. `Unreachable` comes exactly where the file is a specification (up to now one
-/// with one automaton) whose initial automaton is closed under its rules, and then no term that is reachable in it is
-/// forbidden. `Undecided` comes exactly where the automaton of a specification is not closed. `BadWords` comes exactly
-/// where the words are no command line, `TooLong` exactly where the file has more than 1,048,576 bytes, `BadSpec` exactly
-/// where its bytes are no specification, `ReadFault` only where the shelf failed at the file, `WriteFault` only where the
-/// sink failed, and `Memory` at want of memory once the words were understood. At each but the last two the whole text of
-/// the answer is written, at `WriteFault` a part of it, and at `Memory` nothing.
+/// The words are exactly `complete FILE`. `Unreachable` comes exactly where the file is a specification whose initial
+/// automaton is closed under its rules and accepts no forbidden term, and then no term that is reachable, in whatever
+/// number of steps, is forbidden. `Undecided` comes exactly where the file is any other specification. `BadWords` comes
+/// exactly where the words are no command line, `TooLong` exactly where the file has more than 1,048,576 bytes, `BadSpec`
+/// exactly where its bytes are no specification, `ReadFault` only where the shelf failed at the file, `WriteFault` only
+/// where the sink failed, and `Memory` at want of memory once the words were understood. At each but the last two the
+/// whole text of the answer is written, at `WriteFault` a part of it, and at `Memory` nothing.
 pub fn run<F: Shelf, K: Sink>(alloc: Global, words: &[String], shelf: &mut F, out: &mut K) -> Status
     ensures ran { Ran (map string_bytes words.now) (F.left shelf.old)
         (λ name. Rose (F.faults shelf.old name) (F.faults shelf.new name))

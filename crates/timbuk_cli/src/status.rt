@@ -7,7 +7,7 @@ ghost use Rattle.timbuk_cli.specs.Codes.{code_of};
 pub enum Status {
     /// No reachable term is forbidden.
     Unreachable,
-    /// Nothing is settled: the initial automaton is not closed under the rules.
+    /// Nothing is settled: the initial automaton is not closed under the rules, or it accepts a forbidden term.
     Undecided,
     /// The words are no command line.
     BadWords,

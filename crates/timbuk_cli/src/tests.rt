@@ -8,11 +8,16 @@ use std::alloc::{AllocError, Global};
 use std::test::Fail;
 use tim_io::{HonestShelf, HonestSink, MemShelf, MemSink};
 
+mod forbidden;
 mod verdicts;
 
 /// A text without rules, with one state that a constant runs to.
 const BARE: &[u8] =
     b"Ops a:0\nTRS R\nAutomaton One\nStates q0\nFinal States q0\nTransitions\na -> q0\n";
+
+/// Even numbers, from which two successors go away; odd numbers are forbidden.
+const EVEN: &[u8] =
+    b"Ops zero:0 s:1\nVars x\nTRS R\ns(s(x)) -> x\nAutomaton Even\nStates q0 q1\nFinal States q0\nTransitions\nzero -> q0\ns(q0) -> q1\ns(q1) -> q0\nAutomaton Odd\nStates p0 p1\nFinal States p1\nTransitions\nzero -> p0\ns(p0) -> p1\ns(p1) -> p0\n";
 
 const USAGE: &[u8] =
     b"usage: timbuk complete FILE [OPTIONS] | check SPEC CERT | ta OP FILE [--limit N] | browse SPEC SCRIPT | sample N\n";
@@ -63,9 +68,20 @@ fn runs_over_objects_in_memory(rt: HostRuntime) -> Result<(), Fail> {
             written: b"Verdict unreachable\n",
         },
         Case {
+            shows: "a text with two automata",
+            words: &["complete", "F"],
+            file: EVEN,
+            length: 0,
+            read_fails: &[],
+            piece: 1000,
+            write_fails: &[],
+            status: Status::Unreachable,
+            written: b"Verdict unreachable\n",
+        },
+        Case {
             shows: "the verdict in small pieces",
             words: &["complete", "F"],
-            file: BARE,
+            file: EVEN,
             length: 0,
             read_fails: &[],
             piece: 3,
@@ -98,7 +114,7 @@ fn runs_over_objects_in_memory(rt: HostRuntime) -> Result<(), Fail> {
         Case {
             shows: "a name that is not there",
             words: &["complete", "G"],
-            file: BARE,
+            file: EVEN,
             length: 0,
             read_fails: &[],
             piece: 1000,
@@ -219,7 +235,7 @@ fn runs_over_objects_in_memory(rt: HostRuntime) -> Result<(), Fail> {
         Case {
             shows: "just as long as allowed",
             words: &["complete", "F"],
-            file: BARE,
+            file: EVEN,
             length: 1048576,
             read_fails: &[],
             piece: 1000,
@@ -230,7 +246,7 @@ fn runs_over_objects_in_memory(rt: HostRuntime) -> Result<(), Fail> {
         Case {
             shows: "one byte too long",
             words: &["complete", "F"],
-            file: BARE,
+            file: EVEN,
             length: 1048577,
             read_fails: &[],
             piece: 1000,
@@ -241,7 +257,7 @@ fn runs_over_objects_in_memory(rt: HostRuntime) -> Result<(), Fail> {
         Case {
             shows: "call 2 of the shelf fails",
             words: &["complete", "F"],
-            file: BARE,
+            file: EVEN,
             length: 0,
             read_fails: &[2],
             piece: 1000,
@@ -252,7 +268,7 @@ fn runs_over_objects_in_memory(rt: HostRuntime) -> Result<(), Fail> {
         Case {
             shows: "call 2 of the sink fails",
             words: &["complete", "F"],
-            file: BARE,
+            file: EVEN,
             length: 0,
             read_fails: &[],
             piece: 3,
@@ -287,6 +303,22 @@ fn runs_over_objects_in_memory(rt: HostRuntime) -> Result<(), Fail> {
         assert_eq!(rt; status, case.status, "{}", case.shows);
         assert_eq!(rt; sink.bytes(), case.written, "{}", case.shows);
     }
+    Ok(())
+}
+
+#[test]
+fn a_long_file_is_read_one_byte_past_the_limit(rt: HostRuntime) -> Result<(), Fail> {
+    let mut file = Vec::from_slice(rt.alloc(), EVEN)?;
+    while file.len() < 1048580 {
+        file.push(b' ')?;
+    }
+    let mut shelf = MemShelf::new(rt.alloc(), 65536, Seq::new(rt.alloc()));
+    shelf.add("F", file.as_slice())?;
+    let mut sink = MemSink::new(rt.alloc(), 100, 100, Seq::new(rt.alloc()))?;
+    let words = owned(rt.alloc(), &["complete", "F"])?;
+    let status = run(rt.alloc(), words.as_slice(), &mut shelf, &mut sink);
+    assert_eq!(rt; status, Status::TooLong);
+    assert_eq!(rt; shelf.rest("F").map(|rest| rest.len()), Some(3));
     Ok(())
 }
 

@@ -1,13 +1,14 @@
 //! Cuts a specification at its section words.
 //!
 //! Each section begins with its word, goes on to the next section word or closed word, and stands in one order:
-//! `Ops` and `Vars`, which may be left out, `TRS`, `Automaton`, `States`, `Final States` and `Transitions`.
+//! `Ops` and `Vars`, which may be left out, `TRS`, and one or two automata, each of `Automaton`, `States`,
+//! `Final States` and `Transitions`.
 ghost use Rattle.std.specs.Prelude.{◌≡◌, ◌≤◌, [], length, not, All, IfSome, unwrap_or, option_map};
 ghost use Rattle.std.specs.List.{prefix_len};
 ghost use Rattle.std.specs.Option.{IsSomeAnd};
 ghost use Rattle.timbuk_cli.specs.Vocabulary.{is_reserved};
 ghost use Rattle.timbuk_cli.specs.Glyphs.{glyph_of, glyphs_of, HasWord};
-ghost use Rattle.timbuk_cli.specs.Sections.{is_title, is_this_word, section_of, Bodies, AreBodies, assembled, Shows, IsCut, AreTokens};
+ghost use Rattle.timbuk_cli.specs.Sections.{is_title, is_this_word, section_of, automaton_of, only_automaton_of, glyphs_in, AreAutomatonTokens, Bodies, AreBodies, assembled, Shows, IsCut, AreTokens};
 
 use timbuk_lex::{Lexeme, TokenKind};
 
@@ -96,6 +97,56 @@ fn optional_section<'s, 'a>(
     }
 }
 
+/// The tokens below each section word of an automaton.
+#[derive(Clone, Copy, Debug, Drop)]
+pub(crate) struct AutomatonSections<'s, 'a> {
+    /// The name of the automaton.
+    pub(crate) title: &'s [Lexeme<'a>],
+    /// The states.
+    pub(crate) states: &'s [Lexeme<'a>],
+    /// The final states.
+    pub(crate) finals: &'s [Lexeme<'a>],
+    /// The transitions.
+    pub(crate) transitions: &'s [Lexeme<'a>],
+}
+
+/// Cuts the sections `Automaton .. States .. Final States .. Transitions ..` off the front, and answers them with what
+/// follows, or nothing where the tokens do not begin so.
+fn automaton_sections<'s, 'a>(
+    lexemes: &'s [Lexeme<'a>],
+) -> Option<(AutomatonSections<'s, 'a>, &'s [Lexeme<'a>])>
+    ensures value { option_map (λ p. (glyphs_in p.0, glyphs_of p.1.now)) result ≡ automaton_of (glyphs_of lexemes.now) }
+    ensures tokens { All HasWord lexemes.now → IfSome result (λ p. AreAutomatonTokens p.0 × All HasWord p.1.now) }
+{
+    let (title, rest) = section(b"Automaton", lexemes)?;
+    let (states, rest) = section(b"States", rest)?;
+    let (between, rest) = section(b"Final", rest)?;
+    let (finals, rest) = section(b"States", rest)?;
+    let (transitions, rest) = section(b"Transitions", rest)?;
+    if !between.is_empty() {
+        return None;
+    }
+    let sections = AutomatonSections {
+        title,
+        states,
+        finals,
+        transitions,
+    };
+    Some((sections, rest))
+}
+
+/// The sections of an automaton, where the tokens are these and nothing else.
+fn only_automaton_sections<'s, 'a>(lexemes: &'s [Lexeme<'a>]) -> Option<AutomatonSections<'s, 'a>>
+    ensures value { option_map glyphs_in result ≡ only_automaton_of (glyphs_of lexemes.now) }
+    ensures tokens { All HasWord lexemes.now → IfSome result AreAutomatonTokens }
+{
+    let (sections, rest) = automaton_sections(lexemes)?;
+    if !rest.is_empty() {
+        return None;
+    }
+    Some(sections)
+}
+
 /// The tokens below each section word of a specification.
 #[derive(Clone, Copy, Debug, Drop)]
 pub(crate) struct Sections<'s, 'a> {
@@ -105,18 +156,14 @@ pub(crate) struct Sections<'s, 'a> {
     pub(crate) vars: &'s [Lexeme<'a>],
     /// The name of the system, and its rules.
     pub(crate) system: &'s [Lexeme<'a>],
-    /// The name of the automaton.
-    pub(crate) automaton: &'s [Lexeme<'a>],
-    /// The states.
-    pub(crate) states: &'s [Lexeme<'a>],
-    /// The final states.
-    pub(crate) finals: &'s [Lexeme<'a>],
-    /// The transitions.
-    pub(crate) transitions: &'s [Lexeme<'a>],
+    /// The first automaton, whose terms rewriting starts from.
+    pub(crate) initial: AutomatonSections<'s, 'a>,
+    /// The second automaton, of forbidden terms, `None` where it is left out.
+    pub(crate) forbidden: Option<AutomatonSections<'s, 'a>>,
 }
 
-/// Cuts the tokens `[Ops ..] [Vars ..] TRS .. Automaton .. States .. Final States .. Transitions ..` at their section
-/// words, and answers nothing where they do not stand so.
+/// Cuts the tokens `[Ops ..] [Vars ..] TRS ..` with one or two automata behind them at their section words, and answers
+/// nothing where they do not stand so.
 pub(crate) fn cut<'s, 'a>(lexemes: &'s [Lexeme<'a>]) -> Option<Sections<'s, 'a>>
     ensures found { IfSome result (IsCut lexemes.now) }
     ensures only { (b : Bodies) → AreBodies b → glyphs_of lexemes.now ≡ assembled b → IsSomeAnd result (λ p. Shows p b) }
@@ -125,21 +172,17 @@ pub(crate) fn cut<'s, 'a>(lexemes: &'s [Lexeme<'a>]) -> Option<Sections<'s, 'a>>
     let (ops, rest) = optional_section(b"Ops", lexemes);
     let (vars, rest) = optional_section(b"Vars", rest);
     let (system, rest) = section(b"TRS", rest)?;
-    let (automaton, rest) = section(b"Automaton", rest)?;
-    let (states, rest) = section(b"States", rest)?;
-    let (between, rest) = section(b"Final", rest)?;
-    let (finals, rest) = section(b"States", rest)?;
-    let (transitions, rest) = section(b"Transitions", rest)?;
-    if !between.is_empty() || !rest.is_empty() {
-        return None;
-    }
+    let (initial, rest) = automaton_sections(rest)?;
+    let forbidden = if rest.is_empty() {
+        None
+    } else {
+        Some(only_automaton_sections(rest)?)
+    };
     Some(Sections {
         ops,
         vars,
         system,
-        automaton,
-        states,
-        finals,
-        transitions,
+        initial,
+        forbidden,
     })
 }

@@ -8,7 +8,7 @@ use std::test::Fail;
 use tim_io::{MemShelf, MemSink};
 
 /// The answer to `complete F` where the file is these bytes, and what is written.
-fn complete(alloc: Global, file: &[u8]) -> Result<(Status, MemSink), AllocError> {
+pub(super) fn complete(alloc: Global, file: &[u8]) -> Result<(Status, MemSink), AllocError> {
     let mut shelf = MemShelf::new(alloc, 65536, Seq::new(alloc));
     shelf.add("F", file)?;
     let mut sink = MemSink::new(alloc, 1000, 1000, Seq::new(alloc))?;

@@ -1,4 +1,5 @@
 use Rattle.std.proofs.Common.{◌≡◌, rules, sym, ap, ◌∙◌}
+use Rattle.std.proofs.lemmas.Result.{IfOk-weaker}
 use Rattle.ta_core.specs.declared.spec.Spec.{Spec}
 use Rattle.timbuk_lex.specs.Lexing.{lexed}
 use Rattle.timbuk_lex.specs.declared.lex.Lexed.{Lexed}
@@ -7,7 +8,7 @@ use Rattle.timbuk_cli.specs.Glyphs.{glyphs_of}
 use Rattle.timbuk_cli.specs.Source.{spelled}
 use Rattle.timbuk_cli.specs.SpecText.{SpecText}
 use Rattle.timbuk_cli.specs.Parts.{ReadsParts}
-use Rattle.timbuk_cli.proofs.Composition.{spec_from_parts, on_ok}
+use Rattle.timbuk_cli.proofs.Composition.{spec_from_parts}
 use Rattle.timbuk_cli.proofs.SourceCut.{cut_spells}
 use Rattle.timbuk_cli.proofs.reader.read_spec.Goals as goal
 
@@ -23,9 +24,9 @@ returns-clause-found c =
     let ends : c.in_ok-lexed.lexed.ending ≡ Whole = search rules in
     let whole : (lexed c.args.bytes.now).ending ≡ Whole = sym (ap (λ (l : Lexed). l.ending) c.in_ok-lexed.ensures.exact) ∙ ends in
     let tokens = c.as_slice.ensures ∙ ap (λ (l : Lexed). l.tokens) c.in_ok-lexed.ensures.exact in
-    on_ok (λ (spec : Spec). ReadsParts c.in-Some.sections spec) (λ (spec : Spec). SpecText c.args.bytes.now spec)
+    IfOk-weaker c.read_sections.result (λ (spec : Spec). ReadsParts c.in-Some.sections spec) (λ (spec : Spec). SpecText c.args.bytes.now spec)
     (λ spec parts. spec_from_parts c.args.bytes.now c.as_slice.result.now c.in-Some.sections spec plain whole tokens c.in-Some.ensures.found parts)
-    c.read_sections.result c.read_sections.ensures.found
+    c.read_sections.ensures.found
 
 pub returns-clause-unread : goal.returns-clause-unread
 returns-clause-unread c = λ unread spec bare.

@@ -1,9 +1,9 @@
-use Rattle.std.proofs.Common.{◌≡◌, ◌==◌, false, ◌⊎◌, inl, inr, length, codes, None, refl, sym, subst, ◌∙◌}
+use Rattle.std.proofs.Common.{◌≡◌, Some, None, option_map, codes, refl, sym, subst, ◌∙◌}
 use Rattle.timbuk_cli.specs.Glyphs.{glyphs_of}
-use Rattle.timbuk_cli.specs.Sections.{Shows, section_of}
-use Rattle.timbuk_cli.proofs.SectionLaws.{cut_of, body_in, more_stands, none_assembled, one_way, found_in_order}
+use Rattle.timbuk_cli.specs.Sections.{Bodies, Shows, section_of, glyphs_in}
+use Rattle.timbuk_cli.proofs.SectionLaws.{cut_of, body_in, forbidden_of, forbidden_of-none, forbidden_of-tokens, none_assembled, one_way, cut_of-some}
 use Rattle.timbuk_cli.proofs.reader.sections.cut.Goals as goal
-use Rattle.timbuk_cli.proofs.reader.sections.cut.Goals.{then-not-is_empty-via-then-not-is_empty, then-not-is_empty-via-else-not-is_empty+then-not-is_empty-2}
+use Rattle.timbuk_cli.proofs.reader.sections.cut.Goals.{then-is_empty, else-is_empty+in_ok-only_automaton_sections}
 
 pub returns-in_err-system-clause-only : goal.returns-in_err-system-clause-only
 returns-in_err-system-clause-only c =
@@ -11,79 +11,50 @@ returns-in_err-system-clause-only c =
     rw (← c.optional_section.ensures.rest, ← c.optional_section-2.ensures.rest, ← c.in_err-system.ensures.value) refl in
     rw c.from_residual.ensures (none_assembled (glyphs_of c.args.lexemes.now) none)
 
-pub returns-in_err-automaton-clause-only : goal.returns-in_err-automaton-clause-only
-returns-in_err-automaton-clause-only c =
+pub returns-in_err-initial-clause-only : goal.returns-in_err-initial-clause-only
+returns-in_err-initial-clause-only c =
     let none : cut_of (glyphs_of c.args.lexemes.now) ≡ None =
-    rw (← c.optional_section.ensures.rest, ← c.optional_section-2.ensures.rest, ← c.in_ok-system.ensures.value, ← c.in_err-automaton.ensures.value) refl in
-    rw c.from_residual-in_err-automaton.ensures (none_assembled (glyphs_of c.args.lexemes.now) none)
+    rw (← c.optional_section.ensures.rest, ← c.optional_section-2.ensures.rest, ← c.in_ok-system.ensures.value, ← c.in_err-initial.ensures.value) refl in
+    rw c.from_residual-in_err-initial.ensures (none_assembled (glyphs_of c.args.lexemes.now) none)
 
-pub returns-in_err-states-clause-only : goal.returns-in_err-states-clause-only
-returns-in_err-states-clause-only c =
+pub returns-in_err-only_automaton_sections-clause-only : goal.returns-in_err-only_automaton_sections-clause-only
+returns-in_err-only_automaton_sections-clause-only c =
+    let rest = c.in_ok-initial.rest.now in
+    let neither : forbidden_of (glyphs_of rest) ≡ None =
+    forbidden_of-tokens rest (sym c.is_empty.ensures ∙ c.if-is_empty.false) ∙ rw (← c.in_err-only_automaton_sections.ensures.value) refl in
     let none : cut_of (glyphs_of c.args.lexemes.now) ≡ None =
-    rw (← c.optional_section.ensures.rest, ← c.optional_section-2.ensures.rest, ← c.in_ok-system.ensures.value, ← c.in_ok-automaton.ensures.value, ← c.in_err-states.ensures.value) refl in
-    rw c.from_residual-in_err-states.ensures (none_assembled (glyphs_of c.args.lexemes.now) none)
+    rw (← c.optional_section.ensures.rest, ← c.optional_section-2.ensures.rest, ← c.in_ok-system.ensures.value, ← c.in_ok-initial.ensures.value, neither) refl in
+    rw c.from_residual-in_err-only_automaton_sections.ensures (none_assembled (glyphs_of c.args.lexemes.now) none)
 
-pub returns-in_err-between-clause-only : goal.returns-in_err-between-clause-only
-returns-in_err-between-clause-only c =
-    let none : cut_of (glyphs_of c.args.lexemes.now) ≡ None =
-    rw (← c.optional_section.ensures.rest, ← c.optional_section-2.ensures.rest, ← c.in_ok-system.ensures.value, ← c.in_ok-automaton.ensures.value, ← c.in_ok-states.ensures.value, ← c.in_err-between.ensures.value) refl in
-    rw c.from_residual-in_err-between.ensures (none_assembled (glyphs_of c.args.lexemes.now) none)
+-- what follows the first automaton
+forbidden_is : (c : goal.Joined-is_empty) → forbidden_of (glyphs_of c.in_ok-initial.rest.now) ≡ Some (option_map glyphs_in c.if-is_empty.forbidden)
+forbidden_is c =
+    let rest = c.in_ok-initial.rest.now in
+    elim c.if-is_empty.branch [
+      | then-is_empty w ↦ rw w.forbidden-is (forbidden_of-none rest (sym c.is_empty.ensures ∙ w.if-is_empty.true))
+      | else-is_empty+in_ok-only_automaton_sections w ↦
+          rw w.forbidden-is (forbidden_of-tokens rest (sym c.is_empty.ensures ∙ w.if-is_empty.false) ∙ rw (← w.in_ok-only_automaton_sections.ensures.value) refl)
+    ]
 
-pub returns-in_err-finals-clause-only : goal.returns-in_err-finals-clause-only
-returns-in_err-finals-clause-only c =
-    let none : cut_of (glyphs_of c.args.lexemes.now) ≡ None =
-    rw (← c.optional_section.ensures.rest, ← c.optional_section-2.ensures.rest, ← c.in_ok-system.ensures.value, ← c.in_ok-automaton.ensures.value, ← c.in_ok-states.ensures.value, ← c.in_ok-between.ensures.value, ← c.in_err-finals.ensures.value) refl in
-    rw c.from_residual-in_err-finals.ensures (none_assembled (glyphs_of c.args.lexemes.now) none)
-
-pub returns-in_err-transitions-clause-only : goal.returns-in_err-transitions-clause-only
-returns-in_err-transitions-clause-only c =
-    let none : cut_of (glyphs_of c.args.lexemes.now) ≡ None =
-    rw (← c.optional_section.ensures.rest, ← c.optional_section-2.ensures.rest, ← c.in_ok-system.ensures.value, ← c.in_ok-automaton.ensures.value, ← c.in_ok-states.ensures.value, ← c.in_ok-between.ensures.value, ← c.in_ok-finals.ensures.value, ← c.in_err-transitions.ensures.value) refl in
-    rw c.from_residual-in_err-transitions.ensures (none_assembled (glyphs_of c.args.lexemes.now) none)
-
-pub returns-then-not-is_empty-clause-only : goal.returns-then-not-is_empty-clause-only
-returns-then-not-is_empty-clause-only c =
-    let more : ((length c.in_ok-between.between.now == 0) ≡ false) ⊎ ((length c.in_ok-transitions.rest.now == 0) ≡ false) =
-    elim c.then-not-is_empty.branch [
-      | then-not-is_empty-via-then-not-is_empty w ↦ inl (sym c.is_empty.ensures ∙ w.if-not-is_empty.true)
-      | then-not-is_empty-via-else-not-is_empty+then-not-is_empty-2 w ↦ inr (sym w.is_empty-else-not-is_empty.ensures ∙ w.if-not-is_empty-2.true)
-    ] in
-    let none : cut_of (glyphs_of c.args.lexemes.now) ≡ None =
-    rw (← c.optional_section.ensures.rest, ← c.optional_section-2.ensures.rest, ← c.in_ok-system.ensures.value, ← c.in_ok-automaton.ensures.value, ← c.in_ok-states.ensures.value, ← c.in_ok-between.ensures.value, ← c.in_ok-finals.ensures.value, ← c.in_ok-transitions.ensures.value)
-    (more_stands c.in_ok-between.between.now c.in_ok-transitions.rest.now
-    (record {
-      ops = body_in (section_of (codes "Ops") (glyphs_of c.args.lexemes.now));
-      vars = body_in (section_of (codes "Vars") (glyphs_of c.optional_section.result.1.now));
-      system = glyphs_of c.in_ok-system.system.now;
-      automaton = glyphs_of c.in_ok-automaton.automaton.now;
-      states = glyphs_of c.in_ok-states.states.now;
-      finals = glyphs_of c.in_ok-finals.finals.now;
-      transitions = glyphs_of c.in_ok-transitions.transitions.now;
-    })
-    more) in
-    none_assembled (glyphs_of c.args.lexemes.now) none
+abbrev bodies_found : goal.Joined-is_empty → Bodies
+bodies_found c = record {
+  ops = body_in (section_of (codes "Ops") (glyphs_of c.args.lexemes.now));
+  vars = body_in (section_of (codes "Vars") (glyphs_of c.optional_section.result.1.now));
+  system = glyphs_of c.in_ok-system.system.now;
+  initial = glyphs_in c.in_ok-initial.initial;
+  forbidden = option_map glyphs_in c.if-is_empty.forbidden;
+}
 
 pub returns-clause-found : goal.returns-clause-found
 returns-clause-found c =
-    let none_between = sym c.is_empty.ensures ∙ c.if-not-is_empty.false in
-    let none_behind = sym c.is_empty-else-not-is_empty.ensures ∙ c.if-not-is_empty-2.false in
-    let cut = found_in_order _ _ _ _ _ _ _ _ _ _ _ _ _ _ _ c.in_ok-between.between.now c.in_ok-transitions.rest.now
-    refl c.optional_section.ensures.rest refl c.optional_section-2.ensures.rest
-    c.in_ok-system.ensures.value c.in_ok-automaton.ensures.value c.in_ok-states.ensures.value c.in_ok-between.ensures.value c.in_ok-finals.ensures.value c.in_ok-transitions.ensures.value
-    none_between none_behind in
+    let found : cut_of (glyphs_of c.args.lexemes.now) ≡ Some (bodies_found c) =
+    rw (← c.optional_section.ensures.rest, ← c.optional_section-2.ensures.rest, ← c.in_ok-system.ensures.value, ← c.in_ok-initial.ensures.value, forbidden_is c) refl in
+    let cut = cut_of-some (glyphs_of c.args.lexemes.now) (bodies_found c) found in
     record {
-      bodies = record {
-        ops = body_in (section_of (codes "Ops") (glyphs_of c.args.lexemes.now));
-        vars = body_in (section_of (codes "Vars") (glyphs_of c.optional_section.result.1.now));
-        system = glyphs_of c.in_ok-system.system.now;
-        automaton = glyphs_of c.in_ok-automaton.automaton.now;
-        states = glyphs_of c.in_ok-states.states.now;
-        finals = glyphs_of c.in_ok-finals.finals.now;
-        transitions = glyphs_of c.in_ok-transitions.transitions.now;
-      };
+      bodies = bodies_found c;
       free = cut.free;
       whole = cut.whole;
-      shown = record { ops = c.optional_section.ensures.body; vars = c.optional_section-2.ensures.body; system = refl; automaton = refl; states = refl; finals = refl; transitions = refl };
+      shown = record { ops = c.optional_section.ensures.body; vars = c.optional_section-2.ensures.body; system = refl; initial = refl; forbidden = refl };
     }
 
 pub returns-clause-only : goal.returns-clause-only
