@@ -1,1 +1,5 @@
 pub mod Labels
+pub mod OneSpecShapes
+pub mod OneSpecSets
+pub mod OneSpecParts
+pub mod OneSpec
