@@ -3,3 +3,12 @@ pub mod OneSpecShapes
 pub mod OneSpecSets
 pub mod OneSpecParts
 pub mod OneSpec
+pub mod TieLast
+pub mod TieNamesRuns
+pub mod TieNamesRows
+pub mod TieNamesStates
+pub mod TieNamesTexts
+pub mod TieApproximationSteps
+pub mod TieApproximationVariables
+pub mod TieApproximationRows
+pub mod TieApproximationTokens
