@@ -12,3 +12,4 @@ pub mod TieApproximationSteps
 pub mod TieApproximationVariables
 pub mod TieApproximationRows
 pub mod TieApproximationTokens
+pub mod TieApproximationEntries

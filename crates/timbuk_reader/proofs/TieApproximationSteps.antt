@@ -49,17 +49,26 @@ module _ {end : End} where
     only = λ rest e k h. absurd (f (unless_ok (row (Some t) d v.lexeme) v.lexeme (judge end (adds t v.lexeme.text d) (xs ++ rest)) e h).0);
   }
 
-  -- tokens behind tokens
-  pub in_turn : {K J : List Label → Type 0} {d : Declared} {xs ys : List Label} {W : Type 0} {told : W → Declared} {V : W → Type 0} {then_told : (w : W) → V w → Declared}
+  -- tokens behind tokens that want of them no more than K
+  pub in_turn_at : {K J : List Label → Type 0} {d : Declared} {xs ys : List Label} {W : Type 0} {told : W → Declared} {V : W → Type 0} {then_told : (w : W) → V w → Declared}
       → ((rest : List Label) → K rest → J (ys ++ rest)) → IsTied end J d xs W told → ((w : W) → IsTied end K (told w) ys (V w) (then_told w))
       → IsTied end K d (xs ++ ys) ((w : W) × V w) (λ p. then_told p.0 p.1)
-  in_turn {d = d} {xs = xs} {ys = ys} follows first second = record {
+  in_turn_at {d = d} {xs = xs} {ys = ys} follows first second = record {
     fine = λ p rest k. ap (reads end d) (append_assoc xs ys rest) ∙ (first.fine p.0 (ys ++ rest) (follows rest k) ∙ (second p.0).fine p.1 rest k);
     only = λ rest e k h.
         let a = first.only (ys ++ rest) e (follows rest k) (sym (ap (reads end d) (append_assoc xs ys rest)) ∙ h) in
         let b = (second a.0).only rest e k a.1 in
         ((a.0, b.0), b.1);
   }
+
+  -- tokens behind any tokens
+  pub in_turn : {K : List Label → Type 0} {d : Declared} {xs ys : List Label} {W : Type 0} {told : W → Declared} {V : W → Type 0} {then_told : (w : W) → V w → Declared}
+      → IsTied end Whatever d xs W told → ((w : W) → IsTied end K (told w) ys (V w) (then_told w)) → IsTied end K d (xs ++ ys) ((w : W) × V w) (λ p. then_told p.0 p.1)
+  in_turn first second = in_turn_at {J = Whatever} (λ rest k. tt) first second
+
+  -- whatever follows, so also what meets K
+  pub anywhere : {K : List Label → Type 0} {d : Declared} {xs : List Label} {W : Type 0} {told : W → Declared} → IsTied end Whatever d xs W told → IsTied end K d xs W told
+  anywhere tied = record { fine = λ w rest k. tied.fine w rest tt; only = λ rest e k h. tied.only rest e tt h }
 
   -- the same by another witness
   pub by_witness : {K : List Label → Type 0} {d : Declared} {xs : List Label} {W V : Type 0} {told : W → Declared} {told_by : V → Declared}
