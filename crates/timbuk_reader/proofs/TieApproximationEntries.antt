@@ -406,3 +406,87 @@ module _ (end : End) (d : Declared) (short : AreShort d) (r : ApproximationRule)
       (entry_joint head target v.1.0)
       (λ w. ap (λ e. behind_entries (e ∷ []) leaf) (same_entry head target v.1.0 w.0 w.1))
       (λ w. refl)
+
+-- ---- entries of one rule
+
+abbrev pub with_rule : ApproximationRule → List Arrow → List (ApproximationRule × Arrow)
+with_rule r arrows = map (λ a. (r, a)) arrows
+
+-- entries, each with its rule, for which there is room
+pub record AreEntriesHere (d : Declared) (declared : List (ApproximationRule × Arrow)) (es : List Entry) : Type 0 where
+  pub from : AllZip (IsEntryFrom (names_at d)) declared es
+  pub few : length d.entries + length es ≤ 1024
+
+pub short_with : (d : Declared) (es : List Entry) → AreShort d → AreShort (with_entries d es)
+short_with d es h = record { symbols = h.symbols; variables = h.variables; states = h.states }
+
+pub with_none : (d : Declared) → d ≡ with_entries d []
+with_none d = λ i. record d { entries = sym (append-nil d.entries) i }
+
+pub with_more : (d : Declared) (es fs : List Entry) → with_entries (with_entries d es) fs ≡ with_entries d (es ++ fs)
+with_more d es fs = λ i. record d { entries = append_assoc d.entries es fs i }
+
+module _ (end : End) (r : ApproximationRule) (whole at : Shape) (bound : List ℕ) where
+  abbrev entries_at : Declared → Declared
+  entries_at d = amid d (whole ∷ at ∷ []) bound [] [] leaf
+
+  none_told : (d : Declared) (es : List Entry) → AreEntriesHere d [] es → entries_at d ≡ entries_at (with_entries d es)
+  none_told d [] h = ap entries_at (with_none d)
+  none_told d (e ∷ es) h = absurd h.from
+
+  -- the first of some entries, and the others
+  record AreSplit (d : Declared) (a : Arrow) (arrows : List Arrow) (es : List Entry) : Type 0 where
+    first : Entry
+    rest : List Entry
+    is_first : IsEntryHere d r a first
+    are_rest : AreEntriesHere (with_entries d (first ∷ [])) (with_rule r arrows) rest
+    is : first ∷ rest ≡ es
+
+  split : (d : Declared) (a : Arrow) (arrows : List Arrow) (es : List Entry) → AreEntriesHere d (with_rule r (a ∷ arrows)) es → AreSplit d a arrows es
+  split d a arrows [] h = absurd h.from
+  split d a arrows (e ∷ es) h = record {
+    first = e;
+    rest = es;
+    is_first = record { from = h.from.0; few = omega (arith, h.few) };
+    are_rest = record { from = h.from.1; few = omega (arith, h.few, length-append d.entries (e ∷ [])) };
+    is = refl;
+  }
+
+  joined_entries : (d : Declared) (a : Arrow) (arrows : List Arrow) (e : Entry) (es : List Entry) → IsEntryHere d r a e → AreEntriesHere (with_entries d (e ∷ [])) (with_rule r arrows) es → AreEntriesHere d (with_rule r (a ∷ arrows)) (e ∷ es)
+  joined_entries d a arrows e es h k = record { from = (h.from, k.from); few = omega (arith, k.few, length-append d.entries (e ∷ [])) }
+
+  abbrev Entries : Declared → List (Value grammar.entry) → Type 0
+  Entries d vs = (es : List Entry) × AreEntriesHere d (with_rule r (map entry_of vs)) es
+
+  -- an entry, and entries behind it
+  entry_and_more : (v : Value grammar.entry) (vs : List (Value grammar.entry)) (d : Declared) → AreShort d → IsBegun (names_at d) r whole at bound → (l : Last) → is_quiet l ≡ true
+      → ((w : (e : Entry) × IsEntryHere d r (entry_of v) e) → IsTied end Whatever (entries_at (with_entries d (w.0 ∷ []))) (flat_map (labelled grammar.entry) vs) (Entries (with_entries d (w.0 ∷ [])) vs) (λ z. entries_at (with_entries (with_entries d (w.0 ∷ [])) z.0)))
+      → IsTied end Whatever (amid d (whole ∷ at ∷ []) bound [] [] l) (flat_map (labelled grammar.entry) (v ∷ vs)) (Entries d (v ∷ vs)) (λ z. entries_at (with_entries d z.0))
+  entry_and_more v vs d short begun l quiet more =
+      by_witness
+      (in_turn (entry_tied end d short r whole at bound begun v l quiet) more)
+      (λ z. let k = split d (entry_of v) (map entry_of vs) z.0 z.1 in ((k.first, k.is_first), (k.rest, k.are_rest)))
+      (λ w. (w.0.0 ∷ w.1.0, joined_entries d (entry_of v) (map entry_of vs) w.0.0 w.1.0 w.0.1 w.1.1))
+      (λ z. let k = split d (entry_of v) (map entry_of vs) z.0 z.1 in ap entries_at (with_more d (k.first ∷ []) k.rest) ∙ ap (λ es. entries_at (with_entries d es)) k.is)
+      (λ w. ap entries_at (with_more d (w.0.0 ∷ []) w.1.0))
+
+  room_behind : (d : Declared) (a : Arrow) (e : Entry) → IsEntryHere d r a e → length (d.entries ++ e ∷ []) ≤ 1024
+  room_behind d a e h = omega (arith, h.few, length-append d.entries (e ∷ []))
+
+  entries_tied : (vs : List (Value grammar.entry)) (d : Declared) → AreShort d → IsBegun (names_at d) r whole at bound → length d.entries ≤ 1024
+      → IsTied end Whatever (entries_at d) (flat_map (labelled grammar.entry) vs) (Entries d vs) (λ w. entries_at (with_entries d w.0))
+  entries_tied [] d short begun few =
+      by_witness
+      (no_tokens (entries_at d))
+      (λ v. tt)
+      (λ w. ([], record { from = tt; few = omega (arith, few) }))
+      (λ v. none_told d v.0 v.1)
+      (λ w. ap entries_at (with_none d))
+  entries_tied (v ∷ vs) d short begun few =
+      entry_and_more v vs d short begun leaf refl (λ w. entries_tied vs (with_entries d (w.0 ∷ [])) (short_with d (w.0 ∷ []) short) begun (room_behind d (entry_of v) w.0 w.1))
+
+  -- at least one entry
+  pub some_tied : (v : Value grammar.entry) (vs : List (Value grammar.entry)) (d : Declared) → AreShort d → IsBegun (names_at d) r whole at bound → (l : Last) → is_quiet l ≡ true
+      → IsTied end Whatever (amid d (whole ∷ at ∷ []) bound [] [] l) (labelled (grammar.some grammar.entry) (v, vs)) (Entries d (v ∷ vs)) (λ z. entries_at (with_entries d z.0))
+  some_tied v vs d short begun l quiet =
+      entry_and_more v vs d short begun l quiet (λ w. entries_tied vs (with_entries d (w.0 ∷ [])) (short_with d (w.0 ∷ []) short) begun (room_behind d (entry_of v) w.0 w.1))
