@@ -13,3 +13,4 @@ pub mod TieApproximationVariables
 pub mod TieApproximationRows
 pub mod TieApproximationTokens
 pub mod TieApproximationEntries
+pub mod TieApproximation
