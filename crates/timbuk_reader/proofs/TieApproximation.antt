@@ -48,7 +48,7 @@ PatternsAreTied end = (d : Declared) → AreShort d → (t : Tree place.EntryWho
 
 -- ---- lists that belong to two lists behind each other
 
-record IsCut {X Y : Type 0} (R : X → Y → Type 0) (xs ys : List X) (zs : List Y) : Type 0 where
+pub record AreCut {X Y : Type 0} (R : X → Y → Type 0) (xs ys : List X) (zs : List Y) : Type 0 where
   pub front : List Y
   pub back : List Y
   pub is_front : AllZip R xs front
@@ -56,14 +56,14 @@ record IsCut {X Y : Type 0} (R : X → Y → Type 0) (xs ys : List X) (zs : List
   pub is : front ++ back ≡ zs
 
 module _ {X Y : Type 0} (R : X → Y → Type 0) where
-  cut : (xs ys : List X) (zs : List Y) → AllZip R (xs ++ ys) zs → IsCut R xs ys zs
+  pub cut : (xs ys : List X) (zs : List Y) → AllZip R (xs ++ ys) zs → AreCut R xs ys zs
   cut [] ys zs h = record { front = []; back = zs; is_front = tt; is_back = h; is = refl }
   cut (x ∷ xs) ys [] h = absurd h
   cut (x ∷ xs) ys (z ∷ zs) h =
       let k = cut xs ys zs h.1 in
       record { front = z ∷ k.front; back = k.back; is_front = (h.0, k.is_front); is_back = k.is_back; is = λ i. z ∷ k.is i }
 
-  both : (xs ys : List X) (zs ws : List Y) → AllZip R xs zs → AllZip R ys ws → AllZip R (xs ++ ys) (zs ++ ws)
+  pub both : (xs ys : List X) (zs ws : List Y) → AllZip R xs zs → AllZip R ys ws → AllZip R (xs ++ ys) (zs ++ ws)
   both [] ys [] ws h k = k
   both [] ys (z ∷ zs) ws h k = absurd h
   both (x ∷ xs) ys [] ws h k = absurd h
