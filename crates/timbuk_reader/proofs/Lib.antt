@@ -6,6 +6,7 @@ pub mod OneSpecSets
 pub mod OneSpecShapes
 pub mod TieApproximation
 pub mod TieApproximationEntries
+pub mod TieApproximationPatterns
 pub mod TieApproximationRows
 pub mod TieApproximationSteps
 pub mod TieApproximationTokens
@@ -31,9 +32,8 @@ pub mod TieOnly
 pub mod TiePatternNames
 pub mod TiePatterns
 pub mod TieRules
+pub mod TieSectionsParts
 pub mod TieShapes
 pub mod TieSides
 pub mod TieSteps
 pub mod TieVariables
-pub mod TieApproximationPatterns
-pub mod TieSectionsParts

@@ -1,7 +1,8 @@
 -- What sections declare, kind by kind, and one section more.
-use Rattle.std.proofs.Common.{◌≡◌, ◌≢◌, ℕ, zero, suc, ◌+◌, ◌<◌, ◌≤◌, List, [], ◌∷◌, ◌++◌, length, map, All, Contains, refl, sym, ap, subst, ◌∙◌, append_assoc, length-append, arith}
+use Rattle.std.proofs.Common.{◌≡◌, ◌≢◌, ℕ, zero, suc, ◌+◌, ◌<◌, ◌≤◌, false, List, [], ◌∷◌, ◌++◌, length, map, All, Contains, refl, sym, ap, subst, ◌∙◌, append_assoc, length-append, arith}
 use Rattle.std.specs.Prelude.{flat_map}
-use Rattle.std.specs.List.{AllZip}
+use Rattle.std.specs.List.{AllZip, IsDistinct, AllByRecursion}
+use Rattle.std.specs.Str.{bytes_eq}
 use Rattle.std.proofs.lemmas.List.{append-nil}
 use Rattle.std.proofs.lemmas.List.Elements.{All-nil, All-cons, All-head, All-tail, All-push}
 use Rattle.ranked_terms.specs.Names.{Symbol, names_of}
@@ -139,6 +140,42 @@ extra_of approximations = flat_map (λ a. a.0) approximations
 
 abbrev pub rules_of : List (List Text × List ApproximationRule) → List ApproximationRule
 rules_of approximations = flat_map (λ a. a.1) approximations
+
+-- ---- lists in front
+
+pub all_front : {X : Type 0} (A : X → Type 0) (xs ys : List X) → All A (xs ++ ys) → All A xs
+all_front A [] ys h = All-nil A
+all_front A (x ∷ xs) ys h = All-cons A x xs (All-head A x (xs ++ ys) h) (all_front A xs ys (All-tail A x (xs ++ ys) h))
+
+pub all_last : {X : Type 0} (A : X → Type 0) (xs : List X) (x : X) → All A (xs ++ x ∷ []) → A x
+all_last A [] x h = All-head A x [] h
+all_last A (y ∷ xs) x h = all_last A xs x (All-tail A y (xs ++ x ∷ []) h)
+
+apart_front : (x : Text) (xs ys : List Text) → AllByRecursion (λ z. bytes_eq x z ≡ false) (xs ++ ys) → AllByRecursion (λ z. bytes_eq x z ≡ false) xs
+apart_front x [] ys h = tt
+apart_front x (z ∷ xs) ys h = (h.0, apart_front x xs ys h.1)
+
+distinct_front : (xs ys : List Text) → IsDistinct bytes_eq (xs ++ ys) → IsDistinct bytes_eq xs
+unfolding IsDistinct
+distinct_front [] ys h = tt
+distinct_front (x ∷ xs) ys h = (apart_front x xs ys h.0, distinct_front xs ys h.1)
+
+-- the first of some new names
+pub new_front : (taken : List Text) (most : ℕ) (xs ys : List Text) → AreNewNames taken most (xs ++ ys) → AreNewNames taken most xs
+new_front taken most xs ys h = record {
+  short = all_front IsShort xs ys h.short;
+  distinct = distinct_front (taken ++ xs) ys (subst (IsDistinct bytes_eq) (sym (append_assoc taken xs ys)) h.distinct);
+  few = omega (arith, h.few, length-append xs ys);
+}
+
+-- what belongs to nothing
+none_zip : {X Y : Type 0} (A B : X → Y → Type 0) (ys : List Y) → AllZip A [] ys → AllZip B [] ys
+none_zip A B [] h = tt
+none_zip A B (y ∷ ys) h = absurd h
+
+none_left : {X Y : Type 0} (A : X → Y → Type 0) (ys : List Y) → AllZip A [] ys → [] ≡ ys
+none_left A [] h = refl
+none_left A (y ∷ ys) h = absurd h
 
 -- ---- what is allowed
 
@@ -280,4 +317,172 @@ module _ {P Q : Type 0} (R : RuleDeclaration → P → Type 0) (T : EquationDecl
         room = omega (arith, h.one_equations, length-append p.equations (ds ∷ []));
         equations = c.is_back;
         few = omega (arith, h.few_equations, lengths, length-append c.front c.back);
+      }
+
+  -- ---- an automaton more
+
+  states_behind : (automata : List AutomatonDeclaration) (approximations : List (List Text × List ApproximationRule)) (a : AutomatonDeclaration) → (automata ≡ [] → approximations ≡ [])
+      → AreNewNames (names_of symbols ++ variables) 16384 a.states → AreNewNames (names_of symbols ++ variables) 16384 (initial_states automata ++ extra_of approximations)
+      → AreNewNames (names_of symbols ++ variables) 16384 (initial_states (automata ++ a ∷ []) ++ extra_of approximations)
+  states_behind [] approximations a late new h =
+      subst (λ l. AreNewNames (names_of symbols ++ variables) 16384 (a.states ++ extra_of l)) (sym (late refl)) (subst (AreNewNames (names_of symbols ++ variables) 16384) (sym (append-nil a.states)) new)
+  states_behind (first ∷ others) approximations a late new h = h
+
+  entries_behind : (automata : List AutomatonDeclaration) (approximations : List (List Text × List ApproximationRule)) (a : AutomatonDeclaration) → (automata ≡ [] → approximations ≡ []) → (es : List Entry)
+      → AllZip (IsEntryFrom (names_with (initial_states automata ++ extra_of approximations))) (entries_of (rules_of approximations)) es
+      → AllZip (IsEntryFrom (names_with (initial_states (automata ++ a ∷ []) ++ extra_of approximations))) (entries_of (rules_of approximations)) es
+  entries_behind [] approximations a late es h =
+      let none = late refl in
+      subst (λ l. AllZip (IsEntryFrom (names_with (a.states ++ extra_of l))) (entries_of (rules_of l)) es) (sym none)
+      (none_zip (IsEntryFrom (names_with [])) (IsEntryFrom (names_with (a.states ++ []))) es (subst (λ l. AllZip (IsEntryFrom (names_with (extra_of l))) (entries_of (rules_of l)) es) none h))
+  entries_behind (first ∷ others) approximations a late es h = h
+
+  entries_before : (automata : List AutomatonDeclaration) (approximations : List (List Text × List ApproximationRule)) (a : AutomatonDeclaration) → (automata ≡ [] → approximations ≡ []) → (es : List Entry)
+      → AllZip (IsEntryFrom (names_with (initial_states (automata ++ a ∷ []) ++ extra_of approximations))) (entries_of (rules_of approximations)) es
+      → AllZip (IsEntryFrom (names_with (initial_states automata ++ extra_of approximations))) (entries_of (rules_of approximations)) es
+  entries_before [] approximations a late es h =
+      let none = late refl in
+      subst (λ l. AllZip (IsEntryFrom (names_with (extra_of l))) (entries_of (rules_of l)) es) (sym none)
+      (none_zip (IsEntryFrom (names_with (a.states ++ []))) (IsEntryFrom (names_with [])) es (subst (λ l. AllZip (IsEntryFrom (names_with (a.states ++ extra_of l))) (entries_of (rules_of l)) es) none h))
+  entries_before (first ∷ others) approximations a late es h = h
+
+  states_before : (automata : List AutomatonDeclaration) (approximations : List (List Text × List ApproximationRule)) (a : AutomatonDeclaration) → (automata ≡ [] → approximations ≡ [])
+      → AreNewNames (names_of symbols ++ variables) 16384 (initial_states (automata ++ a ∷ []) ++ extra_of approximations)
+      → AreNewNames (names_of symbols ++ variables) 16384 (initial_states automata ++ extra_of approximations)
+  states_before [] approximations a late h =
+      subst (λ l. AreNewNames (names_of symbols ++ variables) 16384 (extra_of l)) (sym (late refl)) (new_front (names_of symbols ++ variables) 16384 [] (a.states ++ extra_of approximations) h)
+  states_before (first ∷ others) approximations a late h = h
+
+  no_last : (automata : List AutomatonDeclaration) (a : AutomatonDeclaration) → automata ++ a ∷ [] ≡ [] → ⊥
+  no_last automata a e = let lengths : length (automata ++ a ∷ []) ≡ 0 = ap length e in omega (arith, lengths, length-append automata (a ∷ []))
+
+  pub push_automaton : (a : AutomatonDeclaration) (p : Parts) (rs : List P) (qs : List Q) (es : List Entry) → AreAllowed p rs qs es
+      → length p.automata < 2 → IsDeclarable symbols variables a → AreAllowed (with_section (automaton a) p) rs qs es
+  push_automaton a p rs qs es h room k = record {
+    one_system = h.one_system;
+    few_rules = h.few_rules;
+    rules = h.rules;
+    one_equations = h.one_equations;
+    few_equations = h.few_equations;
+    equations = h.equations;
+    two_automata = omega (arith, room, length-append p.automata (a ∷ []));
+    automata = All-push (IsDeclarable symbols variables) p.automata a h.automata k;
+    one_approximation = h.one_approximation;
+    late = λ e. absurd (no_last p.automata a e);
+    states = states_behind p.automata p.approximations a h.late k.states h.states;
+    few_entries = h.few_entries;
+    entries = entries_behind p.automata p.approximations a h.late es h.entries;
+  }
+
+  -- an automaton that stands last
+  pub record IsLastAutomaton (a : AutomatonDeclaration) (p : Parts) (rs : List P) (qs : List Q) (es : List Entry) : Type 0 where
+    pub before : AreAllowed p rs qs es
+    pub room : length p.automata < 2
+    pub declarable : IsDeclarable symbols variables a
+
+  pub pop_automaton : (a : AutomatonDeclaration) (p : Parts) (rs : List P) (qs : List Q) (es : List Entry) → (p.automata ≡ [] → p.approximations ≡ []) → AreAllowed (with_section (automaton a) p) rs qs es → IsLastAutomaton a p rs qs es
+  pop_automaton a p rs qs es late h = record {
+    before = record {
+      one_system = h.one_system;
+      few_rules = h.few_rules;
+      rules = h.rules;
+      one_equations = h.one_equations;
+      few_equations = h.few_equations;
+      equations = h.equations;
+      two_automata = omega (arith, h.two_automata, length-append p.automata (a ∷ []));
+      automata = all_front (IsDeclarable symbols variables) p.automata (a ∷ []) h.automata;
+      one_approximation = h.one_approximation;
+      late = late;
+      states = states_before p.automata p.approximations a late h.states;
+      few_entries = h.few_entries;
+      entries = entries_before p.automata p.approximations a late es h.entries;
+    };
+    room = omega (arith, h.two_automata, length-append p.automata (a ∷ []));
+    declarable = all_last (IsDeclarable symbols variables) p.automata a h.automata;
+  }
+
+  -- ---- an approximation more
+
+  same_states : (initial : List Text) (names : List Text) → (initial ++ []) ++ names ≡ initial ++ (names ++ [])
+  same_states initial names = ap (λ l. l ++ names) (append-nil initial) ∙ ap (λ l. initial ++ l) (sym (append-nil names))
+
+  first_states : (initial : List Text) (approximations : List (List Text × List ApproximationRule)) (names : List Text) (rules : List ApproximationRule) → approximations ≡ []
+      → (initial ++ extra_of approximations) ++ names ≡ initial ++ extra_of (approximations ++ (names, rules) ∷ [])
+  first_states initial approximations names rules e =
+      ap (λ l. (initial ++ extra_of l) ++ names) e ∙ (same_states initial names ∙ ap (λ l. initial ++ extra_of (l ++ (names, rules) ∷ [])) (sym e))
+
+  first_rules : (approximations : List (List Text × List ApproximationRule)) (names : List Text) (rules : List ApproximationRule) → approximations ≡ [] → rules ≡ rules_of (approximations ++ (names, rules) ∷ [])
+  first_rules approximations names rules e = sym (append-nil rules) ∙ ap (λ l. rules_of (l ++ (names, rules) ∷ [])) (sym e)
+
+  no_approximation : (approximations : List (List Text × List ApproximationRule)) → length approximations < 1 → approximations ≡ []
+  no_approximation [] h = refl
+  no_approximation (x ∷ xs) h = absurd (omega (arith, h))
+
+  pub push_approximation : (title : Text) (names : List Text) (rules : List ApproximationRule) (p : Parts) (rs : List P) (qs : List Q) (es more : List Entry) → AreAllowed p rs qs es
+      → 1 ≤ length p.automata → length p.approximations < 1 → AreNewNames (names_of symbols ++ variables) 16384 ((initial_states p.automata ++ extra_of p.approximations) ++ names)
+      → AllZip (IsEntryFrom (names_with ((initial_states p.automata ++ extra_of p.approximations) ++ names))) (entries_of rules) more → length es + length more ≤ 1024
+      → AreAllowed (with_section (approximation title names rules) p) rs qs (es ++ more)
+  push_approximation title names rules p rs qs es more h some room new entries few =
+      let none = no_approximation p.approximations room in
+      let no_entries : [] ≡ es = none_left (IsEntryFrom (names_with (initial_states p.automata ++ extra_of []))) es (subst (λ l. AllZip (IsEntryFrom (names_with (initial_states p.automata ++ extra_of l))) (entries_of (rules_of l)) es) none h.entries) in
+      let states_are = first_states (initial_states p.automata) p.approximations names rules none in
+      let rules_are = first_rules p.approximations names rules none in
+      record {
+        one_system = h.one_system;
+        few_rules = h.few_rules;
+        rules = h.rules;
+        one_equations = h.one_equations;
+        few_equations = h.few_equations;
+        equations = h.equations;
+        two_automata = h.two_automata;
+        automata = h.automata;
+        one_approximation = omega (arith, room, length-append p.approximations ((names, rules) ∷ []));
+        late = λ e. let lengths : length p.automata ≡ 0 = ap length e in absurd (omega (arith, lengths, some));
+        states = subst (AreNewNames (names_of symbols ++ variables) 16384) states_are new;
+        few_entries = omega (arith, few, length-append es more);
+        entries = subst (λ l. AllZip (IsEntryFrom (names_with (initial_states p.automata ++ extra_of (p.approximations ++ (names, rules) ∷ [])))) (entries_of (rules_of (p.approximations ++ (names, rules) ∷ []))) (l ++ more)) no_entries
+            (subst (λ (z : List Text × List ApproximationRule). AllZip (IsEntryFrom (names_with z.0)) (entries_of z.1) more) (λ i. (states_are i, rules_are i)) entries);
+      }
+
+  -- an approximation that stands last
+  pub record IsLastApproximation (names : List Text) (rules : List ApproximationRule) (p : Parts) (rs : List P) (qs : List Q) (es : List Entry) : Type 0 where
+    pub before : AreAllowed p rs qs []
+    pub some : 1 ≤ length p.automata
+    pub room : length p.approximations < 1
+    pub states : AreNewNames (names_of symbols ++ variables) 16384 ((initial_states p.automata ++ extra_of p.approximations) ++ names)
+    pub entries : AllZip (IsEntryFrom (names_with ((initial_states p.automata ++ extra_of p.approximations) ++ names))) (entries_of rules) es
+    pub few : length es ≤ 1024
+
+  some_automaton : (automata : List AutomatonDeclaration) (approximations : List (List Text × List ApproximationRule)) (x : List Text × List ApproximationRule) → (automata ≡ [] → approximations ++ x ∷ [] ≡ []) → 1 ≤ length automata
+  some_automaton [] approximations x late = let lengths : length (approximations ++ x ∷ []) ≡ 0 = ap length (late refl) in absurd (omega (arith, lengths, length-append approximations (x ∷ [])))
+  some_automaton (a ∷ automata) approximations x late = omega arith
+
+  pub pop_approximation : (title : Text) (names : List Text) (rules : List ApproximationRule) (p : Parts) (rs : List P) (qs : List Q) (es : List Entry) → AreAllowed (with_section (approximation title names rules) p) rs qs es → IsLastApproximation names rules p rs qs es
+  pop_approximation title names rules p rs qs es h =
+      let room : length p.approximations < 1 = omega (arith, h.one_approximation, length-append p.approximations ((names, rules) ∷ [])) in
+      let none = no_approximation p.approximations room in
+      let states_are = first_states (initial_states p.automata) p.approximations names rules none in
+      let rules_are = first_rules p.approximations names rules none in
+      let new = subst (AreNewNames (names_of symbols ++ variables) 16384) (sym states_are) h.states in
+      record {
+        before = record {
+          one_system = h.one_system;
+          few_rules = h.few_rules;
+          rules = h.rules;
+          one_equations = h.one_equations;
+          few_equations = h.few_equations;
+          equations = h.equations;
+          two_automata = h.two_automata;
+          automata = h.automata;
+          one_approximation = omega (arith, room);
+          late = λ e. none;
+          states = new_front (names_of symbols ++ variables) 16384 (initial_states p.automata ++ extra_of p.approximations) names new;
+          few_entries = omega arith;
+          entries = subst (λ l. AllZip (IsEntryFrom (names_with (initial_states p.automata ++ extra_of l))) (entries_of (rules_of l)) []) (sym none) tt;
+        };
+        some = some_automaton p.automata p.approximations (names, rules) h.late;
+        room = room;
+        states = new;
+        entries = subst (λ (z : List Text × List ApproximationRule). AllZip (IsEntryFrom (names_with z.0)) (entries_of z.1) es) (λ i. (sym states_are i, sym rules_are i)) h.entries;
+        few = h.few_entries;
       }
