@@ -1,2 +1,4 @@
 pub mod Labels
 pub mod TieNamesRuns
+pub mod TieNamesRows
+pub mod TieNamesTexts
