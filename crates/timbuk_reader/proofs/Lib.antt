@@ -6,3 +6,4 @@ pub mod TieNamesStates
 pub mod TieNamesLeads
 pub mod TieNames
 pub mod TieAutomatonStates
+pub mod TieAutomatonNames
