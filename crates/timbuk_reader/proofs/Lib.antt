@@ -7,3 +7,4 @@ pub mod TieNamesLeads
 pub mod TieNames
 pub mod TieAutomatonStates
 pub mod TieAutomatonNames
+pub mod TieAutomatonHeads
