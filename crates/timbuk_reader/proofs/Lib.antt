@@ -8,3 +8,4 @@ pub mod TieNames
 pub mod TieAutomatonStates
 pub mod TieAutomatonNames
 pub mod TieAutomatonHeads
+pub mod TieAutomatonArrows
