@@ -9,3 +9,5 @@ pub mod TieAutomatonStates
 pub mod TieAutomatonNames
 pub mod TieAutomatonHeads
 pub mod TieAutomatonArrows
+pub mod TieAutomatonTransitions
+pub mod TieAutomatonMany

@@ -12,8 +12,8 @@ use Rattle.timbuk_reader.specs.Declarations.{Text, Declared, Started, Applicatio
 use Rattle.timbuk_reader.specs.Source.{text_of}
 use Rattle.timbuk_reader.specs.Naming.{IsShort, place_in}
 use Rattle.timbuk_reader.specs.Rows.{or, when, wrong_after, wrong_arity, expected, too_deep, one_too_many, passed, is_unknown, misnamed, row}
-use Rattle.timbuk_reader.proofs.Labels.{Label, label}
-use Rattle.timbuk_reader.proofs.TieNamesRuns.{AreFaultless, or-none, or_parts_none, when-false, when_none, row-none, row_parts}
+use Rattle.timbuk_reader.proofs.Labels.{label}
+use Rattle.timbuk_reader.proofs.TieNamesRuns.{or-none, or_parts_none, when-false, when_none, row-none, row_parts}
 use Rattle.timbuk_reader.proofs.TieNamesRows.{IsResting, IsAtRest, arity_at_rest, no_opening, is_expected, passed_plain, misnamed_plain}
 use Rattle.timbuk_reader.proofs.TieNamesStates.{between, between-at_rest}
 use Rattle.timbuk_reader.proofs.TieNamesLeads.{Leads, leads_by}
@@ -84,8 +84,8 @@ module _ (a : Started) (l : Last) (resting : IsResting l) (d : Declared) (v : To
   pub state_of_head : (q : ℕ) → IsShort (text_of v) → head_meaning d.symbols a.states (text_of v) ≡ a_state q → Leads (put a (between l d)) (label v ∷ []) (Unit {0}) (behind_head (state_head q) [] leaf a d)
   state_of_head q s e = head_leads_by (put a (between l d)) (behind_head (state_head q) [] leaf a d) v (a_state q) (put-at_rest a l d resting) s (there (a_state q) e) refl refl
 
-  pub no_head_here : (xs : List Label) → head_meaning d.symbols a.states (text_of v) ≡ unknown → AreFaultless (put a (between l d)) (label v ∷ xs) → ⊥
-  no_head_here xs e h = unknown_head (put a (between l d)) v.lexeme (there unknown e) h.0
+  pub no_head_here : head_meaning d.symbols a.states (text_of v) ≡ unknown → row (Some (terminal.Named place.TransitionHead)) (put a (between l d)) v.lexeme ≡ None → ⊥
+  no_head_here e h = unknown_head (put a (between l d)) v.lexeme (there unknown e) h
 
 -- ---- the arrow
 
@@ -127,16 +127,16 @@ target_leads h args a short d v =
 -- ---- another number of arguments
 
 -- a parenthesis behind a state
-pub paren_behind_state : (q : ℕ) (a : Started) (d : Declared) (v : Token terminal.OpenParen) (xs : List Label) → AreFaultless (behind_head (state_head q) [] leaf a d) (label v ∷ xs) → ⊥
+pub paren_behind_state : (q : ℕ) (a : Started) (d : Declared) (v : Token terminal.OpenParen) → row (Some terminal.OpenParen) (behind_head (state_head q) [] leaf a d) v.lexeme ≡ None → ⊥
 unfolding expected
-paren_behind_state q a d v xs h = true≢false (sym v.matched ∙ (or_parts _ _ (row_parts terminal.OpenParen (behind_head (state_head q) [] leaf a d) v.lexeme h.0).place).0)
+paren_behind_state q a d v h = true≢false (sym v.matched ∙ (or_parts _ _ (row_parts terminal.OpenParen (behind_head (state_head q) [] leaf a d) v.lexeme h).place).0)
 
 -- a parenthesis behind a symbol of arity 0
-pub paren_behind_constant : (f : ℕ) (a : Started) (d : Declared) (v : Token terminal.OpenParen) (xs : List Label) → AreFaultless (behind_head (symbol_head f) [] constant a d) (label v ∷ xs) → ⊥
+pub paren_behind_constant : (f : ℕ) (a : Started) (d : Declared) (v : Token terminal.OpenParen) → row (Some terminal.OpenParen) (behind_head (symbol_head f) [] constant a d) v.lexeme ≡ None → ⊥
 unfolding wrong_arity
-paren_behind_constant f a d v xs h = true≢false (sym v.matched ∙ (or_parts _ _ (row_parts terminal.OpenParen (behind_head (symbol_head f) [] constant a d) v.lexeme h.0).arity).0)
+paren_behind_constant f a d v h = true≢false (sym v.matched ∙ (or_parts _ _ (row_parts terminal.OpenParen (behind_head (symbol_head f) [] constant a d) v.lexeme h).arity).0)
 
 -- an arrow behind a symbol that has arguments
-pub arrow_behind_function : (f n : ℕ) (a : Started) (d : Declared) (v : Token terminal.Arrow) (xs : List Label) → AreFaultless (inside f n [] function a d) (label v ∷ xs) → ⊥
+pub arrow_behind_function : (f n : ℕ) (a : Started) (d : Declared) (v : Token terminal.Arrow) → row (Some terminal.Arrow) (inside f n [] function a d) v.lexeme ≡ None → ⊥
 unfolding wrong_arity
-arrow_behind_function f n a d v xs h = true≢false (sym (ap not (no_opening terminal.Arrow v.lexeme refl v.matched)) ∙ (or_parts _ _ (row_parts terminal.Arrow (inside f n [] function a d) v.lexeme h.0).arity).0)
+arrow_behind_function f n a d v h = true≢false (sym (ap not (no_opening terminal.Arrow v.lexeme refl v.matched)) ∙ (or_parts _ _ (row_parts terminal.Arrow (inside f n [] function a d) v.lexeme h).arity).0)
