@@ -11,3 +11,4 @@ pub mod TieAutomatonHeads
 pub mod TieAutomatonArrows
 pub mod TieAutomatonTransitions
 pub mod TieAutomatonMany
+pub mod TieAutomata
