@@ -12,3 +12,4 @@ pub mod TieAutomatonArrows
 pub mod TieAutomatonTransitions
 pub mod TieAutomatonMany
 pub mod TieAutomata
+pub mod TieAutomatonSpecs

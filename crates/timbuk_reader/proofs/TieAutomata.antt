@@ -104,3 +104,15 @@ module _ (d : Declared) (distinct : IsDistinct bytes_eq (names_of d.symbols ++ d
           leads_on (put known (between any e)) (put known (between any e)) ends (labelled (grammar.maybe grammar.description) descriptions) _ _ _ (described_lead known new.short e descriptions)
           (λ described. leads_on (put known (between any e)) (put final (between (last_after finals.1.1 any) e)) ends (labelled grammar.final_states finals) (labelled grammar.transitions transitions) _ _ (final_states_lead known new.short e finals)
           (λ are_final. transitions_lead e short_symbols final new.short apart (last_after finals.1.1 any) (last_after-resting finals.1.1 any tt) transitions)))))))
+
+  -- ---- what the judge says
+
+  module _ (end : End) (l : Last) (resting : IsResting l) (v : Value grammar.automaton) (rest : List Label) where
+    pub fine_automaton : IsAllowedAutomaton d (automaton_of v) → judge end (between l d) (labelled grammar.automaton v ++ rest) ≡ judge end (put (started_by d.symbols (automaton_of v)) (between (last_of v) (next_automaton d))) rest
+    fine_automaton h = leads-fine end _ _ (labelled grammar.automaton v) rest _ (automaton_leads l resting v) h
+
+    pub only_automaton : (e : Declared) → judge end (between l d) (labelled grammar.automaton v ++ rest) ≡ Ok e → IsAllowedAutomaton d (automaton_of v)
+    only_automaton e k = leads-only end _ _ (labelled grammar.automaton v) rest _ e (automaton_leads l resting v) k
+
+pub last_of-resting : (v : Value grammar.automaton) → IsResting (last_of v)
+last_of-resting v = last_after-resting v.1.1.1.1.1.1.1.1 any tt
