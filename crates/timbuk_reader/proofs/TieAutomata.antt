@@ -1,7 +1,7 @@
 -- A whole automaton: what the judge says of its tokens.
-use Rattle.std.proofs.Common.{◌≡◌, ℕ, ◌+◌, ◌<◌, Bool, true, false, ◌||◌, ◌==◌, List, [], ◌∷◌, ◌++◌, length, map, Option, Some, None, Ok, All, Contains, refl, sym, ap, subst, ◌∙◌, append_assoc, arith}
+use Rattle.std.proofs.Common.{◌≡◌, ◌+◌, ◌<◌, false, ◌||◌, List, [], ◌∷◌, ◌++◌, map, None, Ok, All, Contains, refl, sym, ap, subst, ◌∙◌, append_assoc}
 use Rattle.std.specs.Prelude.{flat_map}
-use Rattle.std.specs.List.{IsDistinct, AllByRecursion}
+use Rattle.std.specs.List.{IsDistinct}
 use Rattle.std.specs.Str.{bytes_eq}
 use Rattle.std.proofs.lemmas.Cmp.{nat_list_eq_equiv}
 use Rattle.std.proofs.lemmas.List.Elements.{All-contains, All-from_recursion, Contains-append_right}
@@ -10,10 +10,10 @@ use Rattle.timbuk_grammar.specs.declared.terminal.Place.TheVariants as place
 use Rattle.timbuk_grammar.specs.declared.terminal.Terminal.TheVariants as terminal
 use Rattle.timbuk_grammar.specs.Grammar as grammar
 use Rattle.timbuk_grammar.specs.Trees.{Token, Value}
-use Rattle.timbuk_reader.specs.Declarations.{Text, Declared, Started, Last, any, leaf, no_automaton, current, adds}
-use Rattle.timbuk_reader.specs.Source.{AutomatonDeclaration, text_of, state_of, automaton_of}
+use Rattle.timbuk_reader.specs.Declarations.{Text, Declared, Started, Last, any, no_automaton, current, adds}
+use Rattle.timbuk_reader.specs.Source.{AutomatonDeclaration, text_of, automaton_of}
 use Rattle.timbuk_reader.specs.Naming.{IsShort, AreNewNames, place_in, IsTransition, transitions_in}
-use Rattle.timbuk_reader.specs.Rows.{is_in, row}
+use Rattle.timbuk_reader.specs.Rows.{is_in}
 use Rattle.timbuk_reader.specs.Reading.{End}
 use Rattle.timbuk_reader.proofs.Labels.{Label, label, labelled, judge}
 use Rattle.timbuk_reader.proofs.TieNamesRows.{IsResting, automaton_row, room_for_automaton, title_row, short_title}
@@ -100,10 +100,10 @@ module _ (d : Declared) (distinct : IsDistinct bytes_eq (names_of d.symbols ++ d
       (λ short_title. leads_before start start ends (label states_word ∷ []) _ _ (plain_leads terminal.States states_word start start (put-at_rest no_automaton any e tt) refl refl refl)
       (leads_on start (put known (between any e)) ends (flat_map (labelled (grammar.state place.State)) states) _ _ _ (states_lead no_automaton e states (AreNewNames-nil (taken_by d) 16384 distinct))
       (λ new.
-          let apart = no_symbol d.symbols d.variables a.states new.distinct in
-          leads_on (put known (between any e)) (put known (between any e)) ends (labelled (grammar.maybe grammar.description) descriptions) _ _ _ (described_lead known new.short e descriptions)
-          (λ described. leads_on (put known (between any e)) (put final (between (last_after finals.1.1 any) e)) ends (labelled grammar.final_states finals) (labelled grammar.transitions transitions) _ _ (final_states_lead known new.short e finals)
-          (λ are_final. transitions_lead e short_symbols final new.short apart (last_after finals.1.1 any) (last_after-resting finals.1.1 any tt) transitions)))))))
+      let apart = no_symbol d.symbols d.variables a.states new.distinct in
+      leads_on (put known (between any e)) (put known (between any e)) ends (labelled (grammar.maybe grammar.description) descriptions) _ _ _ (described_lead known new.short e descriptions)
+      (λ described. leads_on (put known (between any e)) (put final (between (last_after finals.1.1 any) e)) ends (labelled grammar.final_states finals) (labelled grammar.transitions transitions) _ _ (final_states_lead known new.short e finals)
+      (λ are_final. transitions_lead e short_symbols final new.short apart (last_after finals.1.1 any) (last_after-resting finals.1.1 any tt) transitions)))))))
 
   -- ---- what the judge says
 

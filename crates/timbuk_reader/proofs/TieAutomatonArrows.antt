@@ -1,21 +1,21 @@
 -- The head, the arrow and the target of a transition, and the rows that fit at another number of arguments.
-use Rattle.std.proofs.Common.{◌≡◌, ℕ, zero, suc, ◌+◌, ◌<◌, ◌≤◌, Bool, true, false, not, ◌&&◌, ◌||◌, nat_lt, nat_le, List, [], ◌∷◌, ◌++◌, length, position, Option, Some, None, All, Contains, refl, sym, ap, subst, ◌∙◌, true≢false, arith}
+use Rattle.std.proofs.Common.{◌≡◌, ℕ, zero, suc, Bool, true, false, not, nat_lt, nat_le, List, [], ◌∷◌, length, position, Some, None, All, Contains, refl, sym, ap, subst, ◌∙◌, true≢false}
 use Rattle.std.specs.Str.{bytes_eq}
 use Rattle.std.proofs.lemmas.Bool.{or_from, or_parts, and_right, le-ltb}
-use Rattle.ranked_terms.specs.Names.{Symbol, names_of, number_of}
+use Rattle.ranked_terms.specs.Names.{Symbol, number_of}
 use Rattle.timbuk_lex.specs.declared.lexeme.Lexeme.{Lexeme}
 use Rattle.timbuk_grammar.specs.declared.terminal.Place.TheVariants as place
 use Rattle.timbuk_grammar.specs.declared.terminal.Terminal.TheVariants as terminal
 use Rattle.timbuk_grammar.specs.Matching.{matches}
-use Rattle.timbuk_grammar.specs.Trees.{Token, Value}
-use Rattle.timbuk_reader.specs.Declarations.{Text, Declared, Started, Application, Last, any, leaf, constant, function, Head, no_head, state_head, symbol_head, current, Meaning, unknown, a_variable, a_state, a_symbol, or_else, as_symbol, as_state, meaning, named, add_transition, adds}
+use Rattle.timbuk_grammar.specs.Trees.{Token}
+use Rattle.timbuk_reader.specs.Declarations.{Text, Declared, Started, Application, Last, any, leaf, constant, function, Head, no_head, state_head, symbol_head, current, Meaning, unknown, a_variable, a_state, a_symbol, or_else, as_symbol, as_state, meaning, named, adds}
 use Rattle.timbuk_reader.specs.Source.{text_of}
 use Rattle.timbuk_reader.specs.Naming.{IsShort, place_in}
-use Rattle.timbuk_reader.specs.Rows.{or, when, wrong_after, wrong_arity, expected, too_deep, one_too_many, passed, is_unknown, misnamed, row}
+use Rattle.timbuk_reader.specs.Rows.{or, wrong_after, wrong_arity, expected, too_deep, one_too_many, passed, is_unknown, misnamed, row}
 use Rattle.timbuk_reader.proofs.Labels.{label}
 use Rattle.timbuk_reader.proofs.TieNamesRuns.{or-none, or_parts_none, when-false, when_none, row-none, row_parts}
 use Rattle.timbuk_reader.proofs.TieNamesRows.{IsResting, IsAtRest, arity_at_rest, no_opening, is_expected, passed_plain, misnamed_plain}
-use Rattle.timbuk_reader.proofs.TieNamesStates.{between, between-at_rest}
+use Rattle.timbuk_reader.proofs.TieNamesStates.{between}
 use Rattle.timbuk_reader.proofs.TieNamesLeads.{Leads, leads_by}
 use Rattle.timbuk_reader.proofs.TieAutomatonStates.{put, current-put, changed, put-at_rest}
 use Rattle.timbuk_reader.proofs.TieAutomatonNames.{use_leads}
@@ -63,7 +63,7 @@ head_leads_by : (d e : Declared) (v : Token (terminal.Named place.TransitionHead
 unfolding adds
 head_leads_by d e v m rest s means h same = leads_by (terminal.Named place.TransitionHead) v.lexeme d e (Unit {0})
     (λ k. row-none (terminal.Named place.TransitionHead) d v.lexeme v.matched (arity_at_rest d v.lexeme rest) (is_expected (terminal.Named place.TransitionHead) d v.lexeme refl refl v.matched)
-        (head_passed d (text_of v) m s means h rest.applications) (head_named d (text_of v) m means h))
+    (head_passed d (text_of v) m s means h rest.applications) (head_named d (text_of v) m means h))
     (λ k. tt)
     (λ k. ap (λ n. named place.TransitionHead n d) means ∙ same)
 
@@ -108,7 +108,7 @@ pub arrow_leads : (h : Head) (args : List ℕ) (l : Last) → IsDone l → (a : 
 unfolding adds
 arrow_leads h args l done a d v = leads_by terminal.Arrow v.lexeme (behind_head h args l a d) (behind_head h args any a d) (Unit {0})
     (λ k. row-none terminal.Arrow (behind_head h args l a d) v.lexeme v.matched (arrow_arity h args l a d v.lexeme (done_after l v.lexeme done (no_opening terminal.Arrow v.lexeme refl v.matched)))
-        (is_expected terminal.Arrow (behind_head h args l a d) v.lexeme refl refl v.matched) (passed_plain terminal.Arrow (text_of v) _ refl) (misnamed_plain terminal.Arrow (text_of v) _ refl))
+    (is_expected terminal.Arrow (behind_head h args l a d) v.lexeme refl refl v.matched) (passed_plain terminal.Arrow (text_of v) _ refl) (misnamed_plain terminal.Arrow (text_of v) _ refl))
     (λ k. tt)
     (λ k. refl)
 

@@ -1,32 +1,29 @@
 -- The tokens of one transition: its head, its arguments, its arrow and its target.
-use Rattle.std.proofs.Common.{◌≡◌, ℕ, zero, suc, ◌+◌, ◌<◌, ◌≤◌, Bool, true, false, not, ◌&&◌, nat_lt, nat_le, List, [], ◌∷◌, ◌++◌, length, map, position, Option, Some, None, All, Contains, refl, sym, ap, subst, ◌∙◌, append_assoc, length-append, true≢false, arith}
+use Rattle.std.proofs.Common.{◌≡◌, ℕ, suc, ◌+◌, ◌<◌, ◌≤◌, false, not, ◌&&◌, nat_lt, nat_le, List, [], ◌∷◌, ◌++◌, length, map, Some, All, Contains, refl, sym, ap, subst, ◌∙◌, append_assoc, length-append, arith}
 use Rattle.std.specs.Prelude.{flat_map}
-use Rattle.std.specs.Str.{bytes_eq}
 use Rattle.std.proofs.lemmas.Bool.{or_from, or_parts, and_left, and_right, le-ltb, lt-leb, ltb-false, leb-false}
 use Rattle.std.proofs.lemmas.List.{append-nil, map-append, length-map}
 use Rattle.std.proofs.lemmas.List.Elements.{All-nil, All-cons, All-head, All-tail}
-use Rattle.ranked_terms.specs.Names.{Symbol, names_of, number_of}
 use Rattle.ranked_terms.specs.declared.term.Shape.{Shape}
 use Rattle.ranked_terms.specs.declared.term.Shape.TheVariants as shape
 use Rattle.ta_core.specs.TreeAutomaton.{trans_of}
 use Rattle.timbuk_lex.specs.declared.lexeme.Lexeme.{Lexeme}
 use Rattle.timbuk_grammar.specs.declared.terminal.Place.TheVariants as place
 use Rattle.timbuk_grammar.specs.declared.terminal.Terminal.TheVariants as terminal
-use Rattle.timbuk_grammar.specs.Vocabulary.{is_closed, is_reserved}
 use Rattle.timbuk_grammar.specs.Grammar as grammar
 use Rattle.timbuk_grammar.specs.Matching.{matches}
 use Rattle.timbuk_grammar.specs.Trees.{Token, Value}
 use Rattle.timbuk_grammar.proofs.Differ.{apart}
-use Rattle.timbuk_reader.specs.Declarations.{Text, Declared, Started, Application, Last, any, leaf, constant, function, Head, no_head, state_head, symbol_head, current, Meaning, unknown, a_variable, a_state, a_symbol, or_else, as_symbol, as_state, meaning, named, add_transition, adds}
+use Rattle.timbuk_reader.specs.Declarations.{Text, Declared, Started, Last, any, leaf, function, Head, no_head, state_head, symbol_head, adds}
 use Rattle.timbuk_reader.specs.Source.{text_of, arguments_of}
 use Rattle.timbuk_reader.specs.Naming.{IsShort, place_in}
-use Rattle.timbuk_reader.specs.Rows.{or, when, wrong_after, wrong_arity, expected, too_deep, one_too_many, passed, is_unknown, misnamed, row}
-use Rattle.timbuk_reader.proofs.Labels.{Label, label, labelled}
-use Rattle.timbuk_reader.proofs.TieNamesRuns.{AreFaultless, or-none, or_parts_none, when-false, when_none, row-none, row_parts}
-use Rattle.timbuk_reader.proofs.TieNamesRows.{IsResting, IsAtRest, arity_at_rest, no_opening, no_approximation, is_expected, passed_plain, misnamed_plain}
-use Rattle.timbuk_reader.proofs.TieNamesStates.{between, between-at_rest}
-use Rattle.timbuk_reader.proofs.TieNamesLeads.{Leads, leads_nowhere, leads_by, leads_on, leads_also, leads_behind, leads_before, plain_leads}
-use Rattle.timbuk_reader.proofs.TieAutomatonStates.{put, current-put, changed, put-at_rest}
+use Rattle.timbuk_reader.specs.Rows.{or, wrong_after, wrong_arity, expected}
+use Rattle.timbuk_reader.proofs.Labels.{label, labelled}
+use Rattle.timbuk_reader.proofs.TieNamesRuns.{row-none, row_parts}
+use Rattle.timbuk_reader.proofs.TieNamesRows.{no_approximation, is_expected, passed_plain, misnamed_plain}
+use Rattle.timbuk_reader.proofs.TieNamesStates.{between}
+use Rattle.timbuk_reader.proofs.TieNamesLeads.{Leads, leads_nowhere, leads_by, leads_on, leads_also, leads_before}
+use Rattle.timbuk_reader.proofs.TieAutomatonStates.{put, current-put}
 use Rattle.timbuk_reader.proofs.TieAutomatonNames.{use_leads}
 
 -- ---- the states inside a transition
@@ -78,28 +75,28 @@ module _ (a : Started) (short : All IsShort a.states) (d : Declared) where
   unfolding adds wrong_arity
   comma_leads f n args v = leads_by terminal.Comma v.lexeme (inside f n args leaf a d) (inside f n args any a d) (length args < n)
       (λ h. row-none terminal.Comma (inside f n args leaf a d) v.lexeme v.matched
-          (or_from _ _ (and_left _ _ (apart terminal.Comma terminal.CloseParen v.lexeme refl v.matched)) (and_right _ _ (lt-leb _ _ (subst (λ k. k < n) (sym (mapped args)) h))))
-          (is_expected terminal.Comma (inside f n args leaf a d) v.lexeme refl refl v.matched) (passed_plain terminal.Comma (text_of v) _ refl) (misnamed_plain terminal.Comma (text_of v) _ refl))
+      (or_from _ _ (and_left _ _ (apart terminal.Comma terminal.CloseParen v.lexeme refl v.matched)) (and_right _ _ (lt-leb _ _ (subst (λ k. k < n) (sym (mapped args)) h))))
+      (is_expected terminal.Comma (inside f n args leaf a d) v.lexeme refl refl v.matched) (passed_plain terminal.Comma (text_of v) _ refl) (misnamed_plain terminal.Comma (text_of v) _ refl))
       (λ h. subst (λ k. k < n) (mapped args) (leb-false _ _ (sym (ap (λ b. b && nat_le n (length (map (λ t. shape.State (place_in a.states t)) args))) v.matched)
-          ∙ (or_parts _ _ (row_parts terminal.Comma (inside f n args leaf a d) v.lexeme h).arity).1)))
+      ∙ (or_parts _ _ (row_parts terminal.Comma (inside f n args leaf a d) v.lexeme h).arity).1)))
       (λ h. refl)
 
   close_leads : (f n : ℕ) (args : List Text) (v : Token terminal.CloseParen) → Leads (inside f n args leaf a d) (label v ∷ []) (n ≤ length args) (behind_head (symbol_head f) (places a args) any a d)
   unfolding adds wrong_arity
   close_leads f n args v = leads_by terminal.CloseParen v.lexeme (inside f n args leaf a d) (behind_head (symbol_head f) (places a args) any a d) (n ≤ length args)
       (λ h. row-none terminal.CloseParen (inside f n args leaf a d) v.lexeme v.matched
-          (or_from _ _ (and_right _ _ (le-ltb _ _ (subst (λ k. n ≤ k) (sym (mapped args)) h))) (and_left _ _ (apart terminal.CloseParen terminal.Comma v.lexeme refl v.matched)))
-          (is_expected terminal.CloseParen (inside f n args leaf a d) v.lexeme refl refl v.matched) (passed_plain terminal.CloseParen (text_of v) _ refl) (misnamed_plain terminal.CloseParen (text_of v) _ refl))
+      (or_from _ _ (and_right _ _ (le-ltb _ _ (subst (λ k. n ≤ k) (sym (mapped args)) h))) (and_left _ _ (apart terminal.CloseParen terminal.Comma v.lexeme refl v.matched)))
+      (is_expected terminal.CloseParen (inside f n args leaf a d) v.lexeme refl refl v.matched) (passed_plain terminal.CloseParen (text_of v) _ refl) (misnamed_plain terminal.CloseParen (text_of v) _ refl))
       (λ h. subst (λ k. n ≤ k) (mapped args) (ltb-false _ _ (sym (ap (λ b. b && nat_lt (length (map (λ t. shape.State (place_in a.states t)) args)) n) v.matched)
-          ∙ (or_parts _ _ (row_parts terminal.CloseParen (inside f n args leaf a d) v.lexeme h).arity).0)))
+      ∙ (or_parts _ _ (row_parts terminal.CloseParen (inside f n args leaf a d) v.lexeme h).arity).0)))
       (λ h. refl)
 
   open_leads : (f n : ℕ) (v : Token terminal.OpenParen) → Leads (inside f n [] function a d) (label v ∷ []) (Unit {0}) (inside f n [] any a d)
   unfolding adds expected
   open_leads f n v = leads_by terminal.OpenParen v.lexeme (inside f n [] function a d) (inside f n [] any a d) (Unit {0})
       (λ h. row-none terminal.OpenParen (inside f n [] function a d) v.lexeme v.matched
-          (not_counted f n [] function v.lexeme (ap not v.matched) (apart terminal.OpenParen terminal.CloseParen v.lexeme refl v.matched) (apart terminal.OpenParen terminal.Comma v.lexeme refl v.matched))
-          (and_left _ _ (no_approximation terminal.OpenParen v.lexeme refl v.matched)) (passed_plain terminal.OpenParen (text_of v) _ refl) (misnamed_plain terminal.OpenParen (text_of v) _ refl))
+      (not_counted f n [] function v.lexeme (ap not v.matched) (apart terminal.OpenParen terminal.CloseParen v.lexeme refl v.matched) (apart terminal.OpenParen terminal.Comma v.lexeme refl v.matched))
+      (and_left _ _ (no_approximation terminal.OpenParen v.lexeme refl v.matched)) (passed_plain terminal.OpenParen (text_of v) _ refl) (misnamed_plain terminal.OpenParen (text_of v) _ refl))
       (λ h. tt)
       (λ h. refl)
 

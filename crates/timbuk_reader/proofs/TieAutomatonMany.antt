@@ -1,25 +1,22 @@
 -- The transitions of an automaton, those under `Prior` among them: what the judge says of their tokens.
-use Rattle.std.proofs.Common.{◌≡◌, ℕ, List, [], ◌∷◌, ◌++◌, map, Option, Some, None, All, Contains, refl, sym, ap, subst, ◌∙◌}
+use Rattle.std.proofs.Common.{◌≡◌, List, [], ◌∷◌, map, Some, None, All, Contains, refl, ap}
 use Rattle.std.specs.Prelude.{flat_map}
-use Rattle.std.proofs.lemmas.List.Elements.{All-nil, All-cons, All-head, All-tail, All-append}
-use Rattle.ranked_terms.specs.Names.{Symbol, names_of, number_of}
+use Rattle.std.proofs.lemmas.List.Elements.{All-nil, All-append}
+use Rattle.ranked_terms.specs.Names.{names_of, number_of}
 use Rattle.timbuk_grammar.specs.declared.terminal.Terminal.TheVariants as terminal
 use Rattle.timbuk_grammar.specs.Grammar as grammar
 use Rattle.timbuk_grammar.specs.Trees.{Token, Value}
 use Rattle.timbuk_reader.specs.Declarations.{Text, Declared, Started, Last, any, leaf, adds}
-use Rattle.timbuk_reader.specs.Source.{Arrow, transition_of, prior_in, transitions_in}
+use Rattle.timbuk_reader.specs.Source.{transition_of, transitions_in}
 use Rattle.timbuk_reader.specs.Naming.{IsShort, IsTransition}
-use Rattle.timbuk_reader.proofs.Labels.{Label, label, labelled}
+use Rattle.timbuk_reader.proofs.Labels.{label, labelled}
 use Rattle.timbuk_reader.proofs.TieNamesRows.{IsResting}
+use Rattle.timbuk_reader.proofs.TieNamesTexts.{all_left}
 use Rattle.timbuk_reader.proofs.TieNamesStates.{between}
 use Rattle.timbuk_reader.proofs.TieNamesLeads.{Leads, leads_nowhere, leads_on, leads_also, leads_before, plain_leads}
 use Rattle.timbuk_reader.proofs.TieAutomatonStates.{put, put-at_rest}
 use Rattle.timbuk_reader.proofs.TieAutomatonNames.{all_first, all_more, last_after, last_after-resting}
 use Rattle.timbuk_reader.proofs.TieAutomatonTransitions.{grown, grown-none, grown-append, transition_leads}
-
-all_left : {X : Type 0} (P : X → Type 0) (xs ys : List X) → All P (xs ++ ys) → All P xs × All P ys
-all_left P [] ys h = (All-nil P, h)
-all_left P (x ∷ xs) ys h = let k = all_left P xs ys (All-tail P x (xs ++ ys) h) in (All-cons P x xs (All-head P x (xs ++ ys) h) k.0, k.1)
 
 module _ (d : Declared) (short_symbols : All IsShort (names_of d.symbols)) where
   many_lead : (a : Started) → All IsShort a.states → ((t : Text) → Contains a.states t → number_of d.symbols t ≡ None) → (l : Last) → IsResting l → (vs : List (Value grammar.transition)) → Leads (put a (between l d)) (flat_map (labelled grammar.transition) vs) (All (IsTransition d.symbols a.states) (map transition_of vs)) (put (grown d.symbols (map transition_of vs) a) (between (last_after vs l) d))

@@ -1,5 +1,5 @@
 -- Names of states that are used: described states, final states, and those of transitions.
-use Rattle.std.proofs.Common.{◌≡◌, ℕ, ◌<◌, Bool, true, false, ◌&&◌, List, [], ◌∷◌, ◌++◌, length, map, position, Option, Some, None, All, Contains, refl, sym, ap, subst, ◌∙◌, append_assoc}
+use Rattle.std.proofs.Common.{◌≡◌, ℕ, Bool, true, false, List, [], ◌∷◌, ◌++◌, map, position, Option, Some, None, All, Contains, refl, sym, ap, subst, ◌∙◌, append_assoc}
 use Rattle.std.specs.Prelude.{flat_map}
 use Rattle.std.specs.Str.{bytes_eq}
 use Rattle.std.proofs.lemmas.Bool.{le-ltb}
@@ -12,15 +12,15 @@ use Rattle.timbuk_grammar.specs.declared.terminal.Terminal.TheVariants as termin
 use Rattle.timbuk_grammar.specs.Grammar as grammar
 use Rattle.timbuk_grammar.specs.Matching.{matches}
 use Rattle.timbuk_grammar.specs.Trees.{Token, Value}
-use Rattle.timbuk_reader.specs.Declarations.{Text, Declared, Started, Application, Last, any, leaf, current, Meaning, unknown, a_state, as_state, meaning, named, adds}
+use Rattle.timbuk_reader.specs.Declarations.{Text, Declared, Started, Last, any, leaf, current, a_state, as_state, meaning, named, adds}
 use Rattle.timbuk_reader.specs.Source.{text_of, described_in, finals_in}
 use Rattle.timbuk_reader.specs.Naming.{IsShort, place_in}
-use Rattle.timbuk_reader.specs.Rows.{or, when, wrong_arity, too_deep, one_too_many, passed, is_unknown, misnamed, row}
+use Rattle.timbuk_reader.specs.Rows.{or, wrong_arity, too_deep, one_too_many, passed, is_unknown, misnamed, row}
 use Rattle.timbuk_reader.proofs.Labels.{Label, label, labelled}
-use Rattle.timbuk_reader.proofs.TieNamesRuns.{or-none, or_parts_none, when-false, when_none, HasNoRow, row-none, row_parts}
-use Rattle.timbuk_reader.proofs.TieNamesRows.{IsResting, IsAtRest, arity_at_rest, is_expected}
+use Rattle.timbuk_reader.proofs.TieNamesRuns.{or-none, or_parts_none, when-false, when_none, row-none, row_parts}
+use Rattle.timbuk_reader.proofs.TieNamesRows.{IsResting, arity_at_rest, is_expected}
 use Rattle.timbuk_reader.proofs.TieNamesTexts.{position_found, Contains-position}
-use Rattle.timbuk_reader.proofs.TieNamesStates.{between, between-at_rest}
+use Rattle.timbuk_reader.proofs.TieNamesStates.{between}
 use Rattle.timbuk_reader.proofs.TieNamesLeads.{Leads, leads_nowhere, leads_by, leads_on, leads_also, leads_behind, leads_before, plain_leads}
 use Rattle.timbuk_reader.proofs.TieAutomatonStates.{put, current-put, changed, put-at_rest}
 

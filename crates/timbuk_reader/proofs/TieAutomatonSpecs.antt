@@ -1,6 +1,5 @@
 -- The first and the second automaton, and the automaton of a specification that is spelled by what is declared.
-use Rattle.std.proofs.Common.{◌≡◌, ◌↔◌, ℕ, ◌+◌, not, ◌==◌, if◌then◌else◌, List, [], ◌∷◌, ◌++◌, length, map, filter, All, Contains, refl, sym, ap, subst, ◌∙◌}
-use Rattle.std.specs.List.{range_with_len}
+use Rattle.std.proofs.Common.{◌≡◌, ◌+◌, ◌<◌, ◌++◌, not, ◌==◌, if◌then◌else◌, List, [], ◌∷◌, length, map, filter, All, Contains, refl, sym, ap, subst, ◌∙◌}
 use Rattle.std.specs.List.Sorted.{IsStrictlySortedBy}
 use Rattle.std.specs.Ordering.{nat_cmp}
 use Rattle.std.specs.declared.cmp.Ordering.{Ordering}
@@ -10,13 +9,13 @@ use Rattle.ta_core.specs.TreeAutomaton.{TreeAutomaton, bare, trans_cmp, pair_cmp
 use Rattle.ta_core.proofs.Members.{here, none}
 use Rattle.timbuk_reader.specs.Declarations.{Declared, Started, Last, no_automaton, current, value_of}
 use Rattle.timbuk_reader.specs.Source.{SymbolDeclaration, AutomatonDeclaration}
-use Rattle.timbuk_reader.specs.Naming.{IsShort, signature_of, AreSymbols, place_in, IsTransition, transitions_in, moves_in}
+use Rattle.timbuk_reader.specs.Naming.{IsShort, signature_of, AreSymbols, AreNewNames, place_in, IsTransition, transitions_in, moves_in}
 use Rattle.timbuk_reader.specs.SpecText.{IsAscendingSet, IsAutomatonFrom}
 use Rattle.timbuk_reader.specs.Spelled.{IsAutomatonOf}
 use Rattle.timbuk_reader.proofs.TieNamesStates.{between}
 use Rattle.timbuk_reader.proofs.TieAutomatonStates.{put}
 use Rattle.timbuk_reader.proofs.TieAutomatonTransitions.{pairs_in, moves-pairs}
-use Rattle.timbuk_reader.proofs.TieAutomata.{started_by, next_automaton}
+use Rattle.timbuk_reader.proofs.TieAutomata.{IsAllowedAutomaton, started_by, next_automaton}
 
 -- ---- the first and the second automaton
 
@@ -72,6 +71,14 @@ automaton_to symbols a s A h k = record {
   trans_are = subst (IsAscendingSet trans_cmp A.trans) (sym h.trans) k.trans_are;
   eps_are = subst (IsAscendingSet pair_cmp A.eps) (sym (eps_is symbols a s h)) k.eps_are;
 }
+
+-- an automaton that may be declared spells what is declared
+pub allowed_automaton : (d : Declared) (a : AutomatonDeclaration) (s : Started) (A : TreeAutomaton) → IsStartedBy d.symbols a s → IsAllowedAutomaton d a → IsAutomatonOf (length a.states) s A → IsAutomatonFrom d.symbols a A
+allowed_automaton d a s A h k of = automaton_from d.symbols a s A h k.described k.final_states k.transitions of
+
+-- and one that spells an automaton may be declared, where there is room and its title and its states are fine
+pub spelled_automaton : (d : Declared) (a : AutomatonDeclaration) (A : TreeAutomaton) → d.automata < 2 → IsShort a.title → AreNewNames (names_of d.symbols ++ d.variables) 16384 a.states → IsAutomatonFrom d.symbols a A → IsAllowedAutomaton d a
+spelled_automaton d a A room title states h = record { room = room; title = title; states = states; described = h.described; final_states = h.final_states; transitions = h.transitions }
 
 -- ---- where no second automaton stands
 

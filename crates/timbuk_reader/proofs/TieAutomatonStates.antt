@@ -1,5 +1,5 @@
 -- The state inside an automaton, and the names of its states.
-use Rattle.std.proofs.Common.{◌≡◌, ◌↔◌, ℕ, ◌<◌, Bool, true, false, ◌==◌, cond, if◌then◌else◌, List, [], ◌∷◌, ◌++◌, length, map, Option, Some, None, refl, sym, ap, subst, ◌∙◌, append_assoc}
+use Rattle.std.proofs.Common.{◌≡◌, ◌↔◌, Bool, true, false, ◌==◌, cond, if◌then◌else◌, List, [], ◌∷◌, ◌++◌, length, map, Some, None, refl, sym, ap, subst, ◌∙◌, append_assoc}
 use Rattle.std.specs.Prelude.{flat_map}
 use Rattle.std.proofs.lemmas.List.{append-nil}
 use Rattle.ranked_terms.specs.Names.{names_of}
@@ -10,11 +10,10 @@ use Rattle.timbuk_grammar.specs.Trees.{Token, Value}
 use Rattle.timbuk_reader.specs.Declarations.{Text, Declared, Started, Last, any, current, with_current, adds}
 use Rattle.timbuk_reader.specs.Source.{text_of, state_of}
 use Rattle.timbuk_reader.specs.Naming.{AreNewNames}
-use Rattle.timbuk_reader.specs.Rows.{row}
-use Rattle.timbuk_reader.proofs.Labels.{Label, label, labelled}
-use Rattle.timbuk_reader.proofs.TieNamesRows.{IsResting, IsAtRest, IsNew, plain_row, state_row, new_state}
+use Rattle.timbuk_reader.proofs.Labels.{label, labelled}
+use Rattle.timbuk_reader.proofs.TieNamesRows.{IsResting, IsAtRest, IsNew, state_row, new_state}
 use Rattle.timbuk_reader.proofs.TieNamesTexts.{IsNew-middle, AreNewNames-push}
-use Rattle.timbuk_reader.proofs.TieNamesStates.{between, between-at_rest}
+use Rattle.timbuk_reader.proofs.TieNamesStates.{between}
 use Rattle.timbuk_reader.proofs.TieNamesLeads.{Leads, leads_nowhere, leads_by, leads_on, leads_also, leads_behind, plain_leads}
 
 -- ---- the automaton that is declared last
@@ -65,9 +64,10 @@ taken_by d = names_of d.symbols ++ d.variables
 new_there : (a : Started) (d : Declared) (l : Last) (name : Text) → IsNew (taken_by d ++ a.states) (length a.states) 16384 name ↔ IsNew (names_of d.symbols ++ (d.variables ++ (current (put a (between l d))).states)) (length (current (put a (between l d))).states) 16384 name
 new_there a d l name =
     let s = append_assoc (names_of d.symbols) d.variables a.states in
-    let e = current-put a (between l d) in
-    (λ h. subst (λ (b : Started). IsNew (names_of d.symbols ++ (d.variables ++ b.states)) (length b.states) 16384 name) (sym e) (subst (λ t. IsNew t (length a.states) 16384 name) s h),
-    λ h. subst (λ t. IsNew t (length a.states) 16384 name) (sym s) (subst (λ (b : Started). IsNew (names_of d.symbols ++ (d.variables ++ b.states)) (length b.states) 16384 name) e h))
+    let e = current-put a (between l d) in (
+      λ h. subst (λ (b : Started). IsNew (names_of d.symbols ++ (d.variables ++ b.states)) (length b.states) 16384 name) (sym e) (subst (λ t. IsNew t (length a.states) 16384 name) s h),
+      λ h. subst (λ t. IsNew t (length a.states) 16384 name) (sym s) (subst (λ (b : Started). IsNew (names_of d.symbols ++ (d.variables ++ b.states)) (length b.states) 16384 name) e h),
+    )
 
 one_state : (a : Started) (d : Declared) (v : Token (terminal.Named place.State)) → Leads (put a (between any d)) (label v ∷ []) (IsNew (taken_by d ++ a.states) (length a.states) 16384 (text_of v)) (put (with_state (text_of v) a) (between any d))
 unfolding adds

@@ -1,9 +1,8 @@
 -- Transitions: what the judge says of their tokens, and what they add to the automaton.
-use Rattle.std.proofs.Common.{◌≡◌, ℕ, zero, suc, ◌+◌, ◌<◌, ◌≤◌, Bool, true, false, not, ◌==◌, cond, List, [], ◌∷◌, ◌++◌, length, map, filter, position, Option, Some, None, unwrap_or, All, Contains, refl, sym, ap, subst, ◌∙◌, append_assoc, true≢false, arith}
-use Rattle.std.specs.Prelude.{flat_map}
+use Rattle.std.proofs.Common.{◌≡◌, ℕ, zero, suc, Bool, true, false, not, ◌==◌, cond, List, [], ◌∷◌, ◌++◌, length, filter, position, Option, Some, None, unwrap_or, All, Contains, refl, sym, ap, subst, ◌∙◌, append_assoc, true≢false, arith}
 use Rattle.std.specs.Str.{bytes_eq}
 use Rattle.std.proofs.lemmas.List.{append-nil}
-use Rattle.std.proofs.lemmas.List.Elements.{All-nil, All-cons, All-head, All-tail, All-append, All-contains}
+use Rattle.std.proofs.lemmas.List.Elements.{All-nil, All-contains}
 use Rattle.std.proofs.lemmas.Option.{same_Some}
 use Rattle.ranked_terms.specs.Names.{Symbol, names_of, number_of, arity_of}
 use Rattle.ta_core.specs.declared.trans.Trans.{Trans}
@@ -11,18 +10,16 @@ use Rattle.timbuk_grammar.specs.declared.terminal.Place.TheVariants as place
 use Rattle.timbuk_grammar.specs.declared.terminal.Terminal.TheVariants as terminal
 use Rattle.timbuk_grammar.specs.Grammar as grammar
 use Rattle.timbuk_grammar.specs.Trees.{Token, Value}
-use Rattle.timbuk_reader.specs.Declarations.{Text, Declared, Started, Last, any, leaf, constant, function, state_head, symbol_head, Meaning, unknown, a_state, a_symbol, or_else, as_symbol, as_state, adds}
-use Rattle.timbuk_reader.specs.Source.{Arrow, text_of, arguments_of, transition_of, prior_in}
-use Rattle.timbuk_reader.specs.Source as source
+use Rattle.timbuk_reader.specs.Declarations.{Text, Declared, Started, Last, any, leaf, constant, function, state_head, symbol_head, unknown, a_state, a_symbol, or_else, as_symbol, as_state}
+use Rattle.timbuk_reader.specs.Source.{Arrow, text_of, transition_of}
 use Rattle.timbuk_reader.specs.Naming.{IsShort, place_in, IsTransition, by_symbol, by_state, with_trans, transitions_in, with_move, moves_in}
 use Rattle.timbuk_reader.specs.Rows.{is_in}
 use Rattle.timbuk_reader.proofs.Labels.{Label, label, labelled}
 use Rattle.timbuk_reader.proofs.TieNamesRows.{IsResting}
 use Rattle.timbuk_reader.proofs.TieNamesTexts.{is_in-from_Contains, Contains-from_is_in, position_found, position_absent, Contains-position, arity_found}
 use Rattle.timbuk_reader.proofs.TieNamesStates.{between}
-use Rattle.timbuk_reader.proofs.TieNamesLeads.{Leads, leads_nowhere, leads_on, leads_also, leads_not, leads_before, plain_leads}
-use Rattle.timbuk_reader.proofs.TieAutomatonStates.{put, put-at_rest}
-use Rattle.timbuk_reader.proofs.TieAutomatonNames.{all_first, all_more, last_after, last_after-resting}
+use Rattle.timbuk_reader.proofs.TieNamesLeads.{Leads, leads_on, leads_also, leads_not, leads_before}
+use Rattle.timbuk_reader.proofs.TieAutomatonStates.{put}
 use Rattle.timbuk_reader.proofs.TieAutomatonHeads.{places, behind_head, inside, added, arguments_lead}
 use Rattle.timbuk_reader.proofs.TieAutomatonArrows.{head_meaning, constant_head, function_head, state_of_head, no_head_here, arrow_leads, target_leads, paren_behind_state, paren_behind_constant, arrow_behind_function}
 

@@ -1,5 +1,5 @@
 -- Symbols and variables: what the judge says of their tokens.
-use Rattle.std.proofs.Common.{◌≡◌, ℕ, List, [], ◌∷◌, ◌++◌, length, map, Option, Some, None, Ok, refl, sym, ap, subst, ◌∙◌, append_assoc}
+use Rattle.std.proofs.Common.{◌≡◌, List, [], ◌∷◌, ◌++◌, length, map, Option, Some, None, Ok, refl, sym, ap, subst, ◌∙◌, append_assoc}
 use Rattle.std.specs.Prelude.{flat_map}
 use Rattle.std.proofs.lemmas.List.{append-nil}
 use Rattle.ranked_terms.specs.Names.{Symbol, names_of}
@@ -12,8 +12,8 @@ use Rattle.timbuk_reader.specs.Source.{SymbolDeclaration, text_of, symbol_of, sy
 use Rattle.timbuk_reader.specs.Naming.{IsShort, signature_of, AreSymbols, AreNewNames}
 use Rattle.timbuk_reader.specs.Reading.{End}
 use Rattle.timbuk_reader.proofs.Labels.{Label, label, labelled, judge}
-use Rattle.timbuk_reader.proofs.TieNamesRuns.{run, AreFaultless, run-append, faultless-append, faultless_parts, judge-faultless, faultless-judge}
-use Rattle.timbuk_reader.proofs.TieNamesRows.{IsResting, IsAtRest, IsNew, plain_row, symbol_row, new_symbol, variable_row, new_variable, number_row, small_number, title_row, short_title}
+use Rattle.timbuk_reader.proofs.TieNamesRuns.{run, AreFaultless, faultless-append, faultless_parts, judge-faultless, faultless-judge}
+use Rattle.timbuk_reader.proofs.TieNamesRows.{IsResting, IsNew, plain_row, symbol_row, new_symbol, variable_row, new_variable, number_row, small_number, title_row, short_title}
 use Rattle.timbuk_reader.proofs.TieNamesStates.{between, between-at_rest}
 use Rattle.timbuk_reader.proofs.TieNamesTexts.{IsNewSymbol, IsNewSymbol-middle, AreSymbols-push, IsNew-middle, AreNewNames-push, signature_of-append}
 
@@ -28,10 +28,13 @@ run_op d v = refl
 
 fine_op : (d : Declared) (v : Value grammar.op) → IsNewSymbol d.symbols (symbol_of v) → AreFaultless (between any d) (labelled grammar.op v)
 unfolding adds
-fine_op d v h =
-    (symbol_row (between any d) v.0.lexeme (between-at_rest any d tt) v.0.matched h.name,
-    (plain_row terminal.Colon _ v.1.0.lexeme (record { applications = refl; last = tt }) refl refl v.1.0.matched,
-    (number_row _ v.1.1.lexeme (record { applications = refl; last = tt }) v.1.1.matched h.arity, tt)))
+fine_op d v h = (
+  symbol_row (between any d) v.0.lexeme (between-at_rest any d tt) v.0.matched h.name,
+  (
+    plain_row terminal.Colon _ v.1.0.lexeme (record { applications = refl; last = tt }) refl refl v.1.0.matched,
+    (number_row _ v.1.1.lexeme (record { applications = refl; last = tt }) v.1.1.matched h.arity, tt),
+  ),
+)
 
 only_op : (d : Declared) (v : Value grammar.op) → AreFaultless (between any d) (labelled grammar.op v) → IsNewSymbol d.symbols (symbol_of v)
 unfolding adds

@@ -1,9 +1,9 @@
 -- The rows of the table at a state in which no application is open: at words and marks, and at names that are declared.
-use Rattle.std.proofs.Common.{◌≡◌, ℕ, suc, ◌<◌, ◌≤◌, Bool, true, false, not, ◌&&◌, ◌||◌, ◌==◌, nat_lt, nat_le, List, [], ◌∷◌, ◌++◌, length, Option, Some, None, codes, refl, sym, ap, ◌∙◌, subst, true≢false, arith}
+use Rattle.std.proofs.Common.{◌≡◌, ℕ, ◌<◌, Bool, true, false, not, ◌&&◌, List, [], ◌++◌, length, Some, None, refl, sym, ap, ◌∙◌, true≢false}
 use Rattle.std.specs.List.{list_all}
 use Rattle.std.specs.Char.{is_ascii_digit}
 use Rattle.std.specs.Str.{bytes_eq}
-use Rattle.std.proofs.lemmas.Bool.{or_from, or_parts, and_left, and_right, and_parts, false_from_ne_true, ltb-false, leb-false, le-ltb, lt-leb}
+use Rattle.std.proofs.lemmas.Bool.{or_from, and_left, and_right, and_parts, false_from_ne_true, ltb-false, leb-false, le-ltb, lt-leb}
 use Rattle.std.proofs.lemmas.Slice.Eq.{bytes_eq-Decides}
 use Rattle.ranked_terms.specs.Names.{names_of}
 use Rattle.timbuk_lex.specs.declared.lexeme.Lexeme.{Lexeme}
@@ -14,12 +14,11 @@ use Rattle.timbuk_grammar.specs.declared.terminal.Terminal.{Terminal}
 use Rattle.timbuk_grammar.specs.declared.terminal.Terminal.TheVariants as terminal
 use Rattle.timbuk_grammar.specs.Vocabulary.{is_closed, is_reserved}
 use Rattle.timbuk_grammar.specs.Matching.{is_word, is_mark, is_text, matches}
-use Rattle.timbuk_grammar.proofs.Differ.{are_apart, apart}
-use Rattle.timbuk_reader.specs.Declarations as states
-use Rattle.timbuk_reader.specs.Declarations.{Declared, Application, Last, any, leaf, constant, function, current, meaning, value_of}
+use Rattle.timbuk_grammar.proofs.Differ.{apart}
+use Rattle.timbuk_reader.specs.Declarations.{Declared, Last, any, leaf, constant, function, current, meaning}
 use Rattle.timbuk_reader.specs.Naming.{IsShort, IsArity}
-use Rattle.timbuk_reader.specs.Rows.{or, when, wrong_after, wrong_count, wrong_arity, unexpected_after, expected, passed, misnamed, is_in, row}
-use Rattle.timbuk_reader.proofs.TieNamesRuns.{or-none, or_parts_none, when-false, when_none, HasNoRow, row-none, row_parts}
+use Rattle.timbuk_reader.specs.Rows.{wrong_after, wrong_count, wrong_arity, unexpected_after, expected, passed, misnamed, is_in, row}
+use Rattle.timbuk_reader.proofs.TieNamesRuns.{or-none, or_parts_none, when-false, when_none, row-none, row_parts}
 
 -- ---- at rest
 

@@ -1,9 +1,9 @@
 -- Tokens at which no row of the table fits, and the state behind them.
-use Rattle.std.proofs.Common.{◌≡◌, ℕ, Bool, true, false, not, ◌&&◌, ◌||◌, ◌==◌, List, [], ◌∷◌, ◌++◌, Option, Some, None, Ok, Err, option_map, codes, refl, sym, ap, ◌∙◌, subst, true≢false}
+use Rattle.std.proofs.Common.{◌≡◌, ℕ, Bool, true, false, not, ◌&&◌, List, [], ◌∷◌, ◌++◌, Option, Some, None, Ok, option_map, codes, refl, sym, ap, ◌∙◌, true≢false}
 use Rattle.std.specs.List.{list_all}
 use Rattle.std.specs.Char.{is_ascii_digit}
 use Rattle.std.specs.Str.{bytes_eq}
-use Rattle.std.proofs.lemmas.Bool.{or_parts, or_from, and_left, and_right, and_parts, false_from_ne_true, not-true}
+use Rattle.std.proofs.lemmas.Bool.{or_parts, or_from, and_right, and_parts, false_from_ne_true, not-true}
 use Rattle.std.proofs.lemmas.Slice.Eq.{bytes_eq-Decides}
 use Rattle.timbuk_lex.specs.declared.lexeme.Lexeme.{Lexeme}
 use Rattle.timbuk_lex.specs.declared.lexeme.TokenKind.{TokenKind}
@@ -12,12 +12,10 @@ use Rattle.timbuk_grammar.specs.declared.terminal.Terminal.{Terminal}
 use Rattle.timbuk_grammar.specs.declared.terminal.Terminal.TheVariants as terminal
 use Rattle.timbuk_grammar.specs.Vocabulary.{is_closed, is_reserved}
 use Rattle.timbuk_grammar.specs.Matching.{is_word, is_mark, is_text, matches}
-use Rattle.timbuk_grammar.proofs.Differ.{are_apart, apart}
 use Rattle.timbuk_reader.specs.declared.fault.SpecKind.{SpecKind}
 use Rattle.timbuk_reader.specs.declared.fault.SpecKind.TheVariants as kind
-use Rattle.timbuk_reader.specs.Declarations as states
-use Rattle.timbuk_reader.specs.Declarations.{Declared, Application, Last, adds}
-use Rattle.timbuk_reader.specs.Rows.{or, when, wrong_after, wrong_count, wrong_arity, unexpected_after, expected, passed, misnamed, is_closed_word, at_terminal, row}
+use Rattle.timbuk_reader.specs.Declarations.{Declared, adds}
+use Rattle.timbuk_reader.specs.Rows.{or, when, wrong_arity, expected, passed, misnamed, is_closed_word, row}
 use Rattle.timbuk_reader.specs.Reading.{Outcome, End, unless}
 use Rattle.timbuk_reader.proofs.Labels.{Label, judge}
 

@@ -1,6 +1,6 @@
 -- The state between declarations.
 use Rattle.std.proofs.Common.{◌≡◌, [], refl}
-use Rattle.timbuk_reader.specs.Declarations.{Declared, Last, any, no_head}
+use Rattle.timbuk_reader.specs.Declarations.{Declared, Last, no_head}
 use Rattle.timbuk_reader.proofs.TieNamesRows.{IsResting, IsAtRest}
 
 -- the state with nothing open

@@ -1,11 +1,11 @@
 -- Names among names: whether one is there, its place, and when names and symbols may be declared one after another.
-use Rattle.std.proofs.Common.{◌≡◌, ◌⊎◌, inl, inr, ℕ, suc, ◌+◌, ◌<◌, ◌≤◌, Bool, true, false, not, ◌||◌, nat_lt, cond, List, [], ◌∷◌, ◌++◌, length, map, position, Option, Some, None, is_some, option_map, unwrap_or, slice_get, All, Contains, refl, sym, ap, subst, ◌∙◌, true≢false, append_assoc, length-append, get_or, arith}
+use Rattle.std.proofs.Common.{◌≡◌, ℕ, suc, ◌+◌, ◌<◌, Bool, true, false, not, ◌||◌, nat_lt, cond, List, [], ◌∷◌, ◌++◌, length, position, Option, Some, None, is_some, option_map, unwrap_or, slice_get, All, Contains, refl, sym, ap, subst, ◌∙◌, append_assoc, length-append, arith}
 use Rattle.std.specs.List.{IsDistinct, AllByRecursion, position_or_len, list_any}
 use Rattle.std.specs.Str.{bytes_eq}
 use Rattle.std.proofs.lemmas.Bool.Decides.{nat_tests}
 use Rattle.std.proofs.lemmas.Cmp.{nat_list_eq_equiv}
 use Rattle.std.proofs.lemmas.List.{map-append, append-nil}
-use Rattle.std.proofs.lemmas.List.Elements.{All-nil, All-push, All-contains, Contains-append_right, Contains-get_or}
+use Rattle.std.proofs.lemmas.List.Elements.{All-nil, All-cons, All-head, All-tail, All-push, All-contains, Contains-append_right}
 use Rattle.std.proofs.lemmas.List.Quantifiers.{position-Some}
 use Rattle.std.proofs.lemmas.Option.{cond_some, slice_get-get_or}
 use Rattle.std.proofs.lemmas.Map.Keys.{IsDistinct-push}
@@ -103,6 +103,27 @@ AreNewNames-nil taken most d = record {
   short = All-nil IsShort;
   distinct = subst (IsDistinct bytes_eq) (sym (append-nil taken)) d;
   few = omega arith;
+}
+
+all_front : (P : Text → Type 0) (xs ys : List Text) → AllByRecursion P (xs ++ ys) → AllByRecursion P xs
+all_front P [] ys h = tt
+all_front P (x ∷ xs) ys h = (h.0, all_front P xs ys h.1)
+
+distinct_front : (xs ys : List Text) → IsDistinct bytes_eq (xs ++ ys) → IsDistinct bytes_eq xs
+unfolding IsDistinct
+distinct_front [] ys h = tt
+distinct_front (x ∷ xs) ys h = (all_front (λ y. bytes_eq x y ≡ false) xs ys h.0, distinct_front xs ys h.1)
+
+pub all_left : {X : Type 0} (P : X → Type 0) (xs ys : List X) → All P (xs ++ ys) → All P xs × All P ys
+all_left P [] ys h = (All-nil P, h)
+all_left P (x ∷ xs) ys h = let k = all_left P xs ys (All-tail P x (xs ++ ys) h) in (All-cons P x xs (All-head P x (xs ++ ys) h) k.0, k.1)
+
+-- the first of new names
+pub AreNewNames-front : (taken : List Text) (most : ℕ) (xs ys : List Text) → AreNewNames taken most (xs ++ ys) → AreNewNames taken most xs
+AreNewNames-front taken most xs ys h = record {
+  short = (all_left IsShort xs ys h.short).0;
+  distinct = distinct_front (taken ++ xs) ys (subst (IsDistinct bytes_eq) (sym (append_assoc taken xs ys)) h.distinct);
+  few = omega (arith, h.few, length-append xs ys);
 }
 
 -- ---- new symbols
