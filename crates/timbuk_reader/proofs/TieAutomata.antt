@@ -11,15 +11,16 @@ use Rattle.timbuk_grammar.specs.declared.terminal.Terminal.TheVariants as termin
 use Rattle.timbuk_grammar.specs.Grammar as grammar
 use Rattle.timbuk_grammar.specs.Trees.{Token, Value}
 use Rattle.timbuk_reader.specs.Declarations.{Text, Declared, Started, Last, any, no_automaton, current, adds}
-use Rattle.timbuk_reader.specs.Source.{AutomatonDeclaration, text_of, automaton_of}
+use Rattle.timbuk_reader.specs.Source.{AutomatonDeclaration, automaton_of}
 use Rattle.timbuk_reader.specs.Naming.{IsShort, AreNewNames, place_in, IsTransition, transitions_in}
 use Rattle.timbuk_reader.specs.Rows.{is_in}
 use Rattle.timbuk_reader.specs.Reading.{End}
 use Rattle.timbuk_reader.proofs.Labels.{Label, label, labelled, judge}
-use Rattle.timbuk_reader.proofs.TieNamesRows.{IsResting, automaton_row, room_for_automaton, title_row, short_title}
+use Rattle.timbuk_reader.proofs.TieNamesRows.{IsResting, automaton_row, room_for_automaton, short_title}
 use Rattle.timbuk_reader.proofs.TieNamesTexts.{AreNewNames-nil, position_absent}
 use Rattle.timbuk_reader.proofs.TieNamesStates.{between, between-at_rest}
 use Rattle.timbuk_reader.proofs.TieNamesLeads.{Leads, leads_by, leads_on, leads_also, leads_before, plain_leads, leads-fine, leads-only}
+use Rattle.timbuk_reader.proofs.TieNames.{title_leads}
 use Rattle.timbuk_reader.proofs.TieAutomatonStates.{put, put-current, put-at_rest, taken_by, with_states, states_lead}
 use Rattle.timbuk_reader.proofs.TieAutomatonNames.{last_after, last_after-resting, described_lead, with_finals, final_states_lead}
 use Rattle.timbuk_reader.proofs.TieAutomatonTransitions.{pairs_in, grown}
@@ -76,12 +77,6 @@ module _ (d : Declared) (distinct : IsDistinct bytes_eq (names_of d.symbols ++ d
       (room_for_automaton (between l d) w.lexeme)
       (λ h. sym (put-current (between any (next_automaton d))) ∙ ap (λ b. put b (between any (next_automaton d))) fresh)
 
-  titled : (w : Token (terminal.Named place.Title)) → Leads (put no_automaton (between any (next_automaton d))) (label w ∷ []) (IsShort (text_of w)) (put no_automaton (between any (next_automaton d)))
-  unfolding adds
-  titled w =
-      let e = put no_automaton (between any (next_automaton d)) in
-      leads_by (terminal.Named place.Title) w.lexeme e e (IsShort (text_of w)) (title_row e w.lexeme (put-at_rest no_automaton any (next_automaton d) tt) w.matched) (short_title e w.lexeme) (λ h. refl)
-
   pub automaton_leads : (l : Last) → IsResting l → (v : Value grammar.automaton) → Leads (between l d) (labelled grammar.automaton v) (IsAllowedAutomaton d (automaton_of v)) (put (started_by d.symbols (automaton_of v)) (between (last_of v) (next_automaton d)))
   unfolding adds
   automaton_leads l resting (word, (title, (states_word, (states, (descriptions, (finals, transitions)))))) =
@@ -96,7 +91,7 @@ module _ (d : Declared) (distinct : IsDistinct bytes_eq (names_of d.symbols ++ d
       (λ k. record { room = k.0; title = k.1.0; states = k.1.1.0; described = k.1.1.1.0; final_states = k.1.1.1.1.0; transitions = k.1.1.1.1.1 })
       (λ k. refl)
       (leads_on (between l d) start ends (label word ∷ []) _ _ _ (begins l resting word)
-      (λ room. leads_on start start ends (label title ∷ []) _ _ _ (titled title)
+      (λ room. leads_on start start ends (label title ∷ []) _ _ _ (title_leads any tt (put no_automaton e) title)
       (λ short_title. leads_before start start ends (label states_word ∷ []) _ _ (plain_leads terminal.States states_word start start (put-at_rest no_automaton any e tt) refl refl refl)
       (leads_on start (put known (between any e)) ends (flat_map (labelled (grammar.state place.State)) states) _ _ _ (states_lead no_automaton e states (AreNewNames-nil (taken_by d) 16384 distinct))
       (λ new.
