@@ -19,7 +19,7 @@ use Rattle.timbuk_reader.proofs.TieAutomatonNames.{all_first, all_more, last_aft
 use Rattle.timbuk_reader.proofs.TieAutomatonTransitions.{grown, grown-none, grown-append, transition_leads}
 
 module _ (d : Declared) (short_symbols : All IsShort (names_of d.symbols)) where
-  many_lead : (a : Started) → All IsShort a.states → ((t : Text) → Contains a.states t → number_of d.symbols t ≡ None) → (l : Last) → IsResting l → (vs : List (Value grammar.transition)) → Leads (put a (between l d)) (flat_map (labelled grammar.transition) vs) (All (IsTransition d.symbols a.states) (map transition_of vs)) (put (grown d.symbols (map transition_of vs) a) (between (last_after vs l) d))
+  pub many_lead : (a : Started) → All IsShort a.states → ((t : Text) → Contains a.states t → number_of d.symbols t ≡ None) → (l : Last) → IsResting l → (vs : List (Value grammar.transition)) → Leads (put a (between l d)) (flat_map (labelled grammar.transition) vs) (All (IsTransition d.symbols a.states) (map transition_of vs)) (put (grown d.symbols (map transition_of vs) a) (between (last_after vs l) d))
   many_lead a short apart l resting [] = leads_also _ _ _ [] (Unit {0}) _ (λ k. tt) (λ k. All-nil (IsTransition d.symbols a.states)) (λ k. ap (λ b. put b (between l d)) (grown-none d.symbols a)) (leads_nowhere (put a (between l d)))
   many_lead a short apart l resting (v ∷ vs) =
       let t = transition_of v in
