@@ -1,3 +1,4 @@
 pub mod Labels
 pub mod Labelled
 pub mod TieLast
+pub mod TieNames
