@@ -2,3 +2,4 @@ pub mod Labels
 pub mod Labelled
 pub mod TieLast
 pub mod TieNames
+pub mod TieSteps

@@ -222,7 +222,7 @@ calm_judge end d (x ∷ xs) q h =
 
 -- ---- a step
 
-calm_unless : (k : Option SpecKind) (x : Lexeme) (o : Outcome) (e : Declared) → calm (unless k x o) ≡ Ok e → k ≡ None
+pub calm_unless : (k : Option SpecKind) (x : Lexeme) (o : Outcome) (e : Declared) → calm (unless k x o) ≡ Ok e → k ≡ None
 calm_unless None x o e h = refl
 calm_unless (Some k) x o e h = cc
 

@@ -74,11 +74,14 @@ mark_plain x a e f = record { open_word = mark_open x.kind a (is_closed x.text) 
 both_false : (a b c d : Bool) → a ≡ false → c ≡ false → ((a && b) || (c && d)) ≡ false
 both_false a b c d e f = (λ i. (e i && b) || (f i && d))
 
--- a name closes no argument
-pub name_counts : (outer : List Application) {p : Place} (n : Token (terminal.Named p)) → wrong_count outer n.lexeme ≡ false
-name_counts [] n = refl
-name_counts (a ∷ outer) {p = p} n =
-    both_false _ _ _ _ (apart (terminal.Named p) terminal.CloseParen n.lexeme refl n.matched) (apart (terminal.Named p) terminal.Comma n.lexeme refl n.matched)
+-- what is neither a closing parenthesis nor a comma ends no argument
+pub counts_not : (outer : List Application) (x : Lexeme) → matches terminal.CloseParen x ≡ false → matches terminal.Comma x ≡ false → wrong_count outer x ≡ false
+counts_not [] x e f = refl
+counts_not (a ∷ outer) x e f = both_false _ _ _ _ e f
+
+name_counts : (outer : List Application) {p : Place} (n : Token (terminal.Named p)) → wrong_count outer n.lexeme ≡ false
+name_counts outer {p = p} n =
+    counts_not outer n.lexeme (apart (terminal.Named p) terminal.CloseParen n.lexeme refl n.matched) (apart (terminal.Named p) terminal.Comma n.lexeme refl n.matched)
 
 -- ---- a row at a token after a quiet one
 
