@@ -3,3 +3,4 @@ pub mod Labelled
 pub mod TieLast
 pub mod TieNames
 pub mod TieSteps
+pub mod TiePatterns
