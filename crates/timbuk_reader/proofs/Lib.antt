@@ -4,3 +4,4 @@ pub mod TieLast
 pub mod TieNames
 pub mod TieSteps
 pub mod TiePatterns
+pub mod TieOnly

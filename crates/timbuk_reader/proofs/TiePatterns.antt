@@ -116,7 +116,7 @@ applied_parts (a_state q) (Some x) (Some xs) s e = cc
 applied_parts m (Some x) None s e = cc
 applied_parts m None b s e = cc
 
-applied_from : {m : Meaning} {a : Option Shape} {b : Option (List Shape)} (f n : ℕ) (s : Shape) (ss : List Shape) → m ≡ a_symbol f n → a ≡ Some s → b ≡ Some ss → n ≡ suc (length ss)
+pub applied_from : {m : Meaning} {a : Option Shape} {b : Option (List Shape)} (f n : ℕ) (s : Shape) (ss : List Shape) → m ≡ a_symbol f n → a ≡ Some s → b ≡ Some ss → n ≡ suc (length ss)
     → option_and_then (node_shape m) (one_and_more a b) ≡ Some (shape.App f (s ∷ ss))
 applied_from f n s ss h e g c =
     (λ i. option_and_then (node_shape (h i)) (one_and_more (e i) (g i)))
@@ -143,11 +143,11 @@ pub pattern_clear : {p : Place} (v : Tree p) (rest : List Label) → NotOpening 
 pattern_clear {p = p} (leaf n) rest = apart (terminal.Named p) terminal.OpenParen n.lexeme refl n.matched
 pattern_clear {p = p} (node n opening first more closing) rest = apart (terminal.Named p) terminal.OpenParen n.lexeme refl n.matched
 
-more_clear : {p : Place} (vs : Trees p) (rest : List Label) → NotOpening rest → NotOpening (labelled_more vs ++ rest)
+pub more_clear : {p : Place} (vs : Trees p) (rest : List Label) → NotOpening rest → NotOpening (labelled_more vs ++ rest)
 more_clear none rest clear = clear
 more_clear (comma mark next more) rest clear = apart terminal.Comma terminal.OpenParen mark.lexeme refl mark.matched
 
-close_clear : (closing : Token terminal.CloseParen) (rest : List Label) → NotOpening (label closing ∷ rest)
+pub close_clear : (closing : Token terminal.CloseParen) (rest : List Label) → NotOpening (label closing ∷ rest)
 close_clear closing rest = apart terminal.CloseParen terminal.OpenParen closing.lexeme refl closing.matched
 
 -- inside of an application any name may begin an argument
@@ -171,7 +171,7 @@ leaf_fits : {p : Place} (n : Token (terminal.Named p)) (d : Declared) (s : Shape
 leaf_fits {p = p} n d s h = record { is_short = h.short_names; allowed = leaf_allowed p (stands_for (names_at p d) (text_of n)) s d h.shape h.variables; start = h.start }
 
 -- the labels of a tree with arguments, and of what follows
-regroup : (xs ys rest : List Label) (x : Label) → (xs ++ (ys ++ x ∷ [])) ++ rest ≡ xs ++ (ys ++ x ∷ rest)
+pub regroup : (xs ys rest : List Label) (x : Label) → (xs ++ (ys ++ x ∷ [])) ++ rest ≡ xs ++ (ys ++ x ∷ rest)
 regroup xs ys rest x = append_assoc xs (ys ++ x ∷ []) rest ∙ ap (λ z. xs ++ z) (append_assoc ys (x ∷ []) rest)
 
 -- A tree's labels are read.
