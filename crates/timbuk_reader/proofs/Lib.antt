@@ -5,3 +5,4 @@ pub mod TieNames
 pub mod TieSteps
 pub mod TiePatterns
 pub mod TieOnly
+pub mod TieShapes

@@ -78,7 +78,7 @@ pub record Both (a : Option Shape) (b : Option (List Shape)) (ss : List Shape) :
   pub more_are : b ≡ Some more
   pub are : first ∷ more ≡ ss
 
-both_parts : (a : Option Shape) (b : Option (List Shape)) (ss : List Shape) → one_and_more a b ≡ Some ss → Both a b ss
+pub both_parts : (a : Option Shape) (b : Option (List Shape)) (ss : List Shape) → one_and_more a b ≡ Some ss → Both a b ss
 both_parts (Some s) (Some more) ss e = record { first = s; more = more; first_is = refl; more_are = refl; are = cc }
 both_parts (Some s) None ss e = cc
 both_parts None b ss e = cc
@@ -108,7 +108,7 @@ applied_by f n s ss whole true t e = record {
 }
 applied_by f n s ss whole false t e = cc
 
-applied_parts : (m : Meaning) (a : Option Shape) (b : Option (List Shape)) (s : Shape) → option_and_then (node_shape m) (one_and_more a b) ≡ Some s → Applied m a b s
+pub applied_parts : (m : Meaning) (a : Option Shape) (b : Option (List Shape)) (s : Shape) → option_and_then (node_shape m) (one_and_more a b) ≡ Some s → Applied m a b s
 applied_parts (a_symbol f n) (Some x) (Some xs) s e = applied_by f n x xs s (n == suc (length xs)) refl e
 applied_parts unknown (Some x) (Some xs) s e = cc
 applied_parts (a_variable v) (Some x) (Some xs) s e = cc
