@@ -6,3 +6,4 @@ pub mod TieSteps
 pub mod TiePatterns
 pub mod TieOnly
 pub mod TieShapes
+pub mod TieVariables
