@@ -7,3 +7,5 @@ pub mod TiePatterns
 pub mod TieOnly
 pub mod TieShapes
 pub mod TieVariables
+pub mod TieSides
+pub mod TieRules
