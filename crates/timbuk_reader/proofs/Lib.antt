@@ -9,3 +9,4 @@ pub mod TieShapes
 pub mod TieVariables
 pub mod TieSides
 pub mod TieRules
+pub mod TieEquations

@@ -75,14 +75,17 @@ node_only {p = p} k n opening first more closing only_first only_more d e end re
     let f = o.symbol.sym in
     let a = suc o.symbol.less in
     let within : length d.applications < 100 = not_deep p f o.symbol.less d (sym (ap (λ z. fits p z d) o.symbol.is) ∙ o.name.allowed) in
-    let h1 = sym (opens_fine k n opening d f o.symbol.less o.name o.symbol.is end (labelled_pattern first ++ after)) ∙ h0 in
+    let h1 : settled end (inside p f a [] d) (labelled_pattern first ++ after) ≡ Ok e =
+        sym (opens_fine k n opening d f o.symbol.less o.name o.symbol.is end (labelled_pattern first ++ after)) ∙ h0 in
     let t = only_first (inside p f a [] d) e end after (omega (arith, within)) (more_clear more _ (close_clear closing rest)) h1 in
     let vs = variables_in names first in
     let ws = variables_among names more in
-    let h2 = sym (pattern_fine p first k (inside p f a [] d) t.shape t.fits end after (more_clear more _ (close_clear closing rest))) ∙ h1 in
+    let h2 : settled end (inside p f a (t.shape ∷ []) (with_bound vs d)) after ≡ Ok e =
+        sym (pattern_fine p first k (inside p f a [] d) t.shape t.fits end after (more_clear more _ (close_clear closing rest))) ∙ h1 in
     let one : 1 ≤ a = omega arith in
     let u = only_more (with_bound vs d) e f a (t.shape ∷ []) end (label closing ∷ rest) within one (close_clear closing rest) h2 in
-    let h3 = sym (more_fine p more k (with_bound vs d) f a (t.shape ∷ []) u.shapes u.fit end (label closing ∷ rest) (close_clear closing rest)) ∙ h2 in
+    let h3 : settled end (inside p f a (t.shape ∷ u.shapes) (with_bound ws (with_bound vs d))) (label closing ∷ rest) ≡ Ok e =
+        sym (more_fine p more k (with_bound vs d) f a (t.shape ∷ []) u.shapes u.fit end (label closing ∷ rest) (close_clear closing rest)) ∙ h2 in
     let c : a ≤ suc (length u.shapes) = close_only p f a (t.shape ∷ u.shapes) (with_bound ws (with_bound vs d)) e closing end rest h3 in
     record {
       shape = shape.App f (t.shape ∷ u.shapes);
@@ -102,11 +105,13 @@ comma_fitting {p = p} k mark next more only_next only_more d e f n args end rest
     let h0 : settled end (inside p f n args d) (label mark ∷ (labelled_pattern next ++ after)) ≡ Ok e =
         ap (λ z. settled end (inside p f n args d) (label mark ∷ z)) (sym (append_assoc (labelled_pattern next) (labelled_more more) rest)) ∙ h in
     let less : length args < n = comma_only p f n args d e mark end (labelled_pattern next ++ after) h0 in
-    let h1 = sym (comma_fine p f n args d mark less end (labelled_pattern next ++ after) (pattern_clear next after)) ∙ h0 in
+    let h1 : settled end (inside p f n args d) (labelled_pattern next ++ after) ≡ Ok e =
+        sym (comma_fine p f n args d mark less end (labelled_pattern next ++ after) (pattern_clear next after)) ∙ h0 in
     let t = only_next (inside p f n args d) e end after (omega (arith, deep)) (more_clear more rest clear) h1 in
     let vs = variables_in names next in
     let ws = variables_among names more in
-    let h2 = sym (pattern_fine p next k (inside p f n args d) t.shape t.fits end after (more_clear more rest clear)) ∙ h1 in
+    let h2 : settled end (inside p f n (args ++ t.shape ∷ []) (with_bound vs d)) after ≡ Ok e =
+        sym (pattern_fine p next k (inside p f n args d) t.shape t.fits end after (more_clear more rest clear)) ∙ h1 in
     let pushed : length (args ++ t.shape ∷ []) ≡ length args + 1 = length-append args (t.shape ∷ []) in
     let u = only_more (with_bound vs d) e f n (args ++ t.shape ∷ []) end rest deep (omega (arith, less)) clear h2 in
     record {
