@@ -1,6 +1,6 @@
 -- The tokens of a derivation are read as its labels are, and what is read without a fault is a derivation.
 use Rattle.std.proofs.Common.{◌≡◌, inl, inr, Bool, true, false, List, [], ◌∷◌, ◌++◌, map, refl, ap, sym, ◌∙◌, subst, append_assoc}
-use Rattle.std.specs.Prelude.{Option, Some, None, Result, Ok, Err, flat_map}
+use Rattle.std.specs.Prelude.{Option, Some, None, Ok, flat_map}
 use Rattle.std.specs.List.{list_all}
 use Rattle.std.proofs.lemmas.List.{append-nil, map-append}
 use Rattle.timbuk_lex.specs.declared.lexeme.Lexeme.{Lexeme}
@@ -8,10 +8,9 @@ use Rattle.timbuk_lex.specs.declared.lex.Ending.{Ending}
 use Rattle.timbuk_lex.specs.declared.lex.Ending.TheVariants.{Whole, Stopped}
 use Rattle.timbuk_grammar.specs.declared.terminal.Place.{Place}
 use Rattle.timbuk_grammar.specs.declared.terminal.Terminal.{Terminal}
-use Rattle.timbuk_grammar.specs.declared.terminal.Terminal.TheVariants as terminal
 use Rattle.timbuk_grammar.specs.Matching.{matches}
 use Rattle.timbuk_grammar.specs.Grammar.{Part, one, ◌then◌, ◌or◌, maybe, many, pattern, name, pattern_arguments, file}
-use Rattle.timbuk_grammar.specs.Derivations.{Opens, stay, token, both, first, second, skip, take, stop, again, head, Derives}
+use Rattle.timbuk_grammar.specs.Derivations.{stay, token, both, first, second, skip, take, stop, again, head, Derives}
 use Rattle.timbuk_grammar.specs.Next.{empties, may_end, Choice, choices, choice_of}
 use Rattle.timbuk_grammar.specs.Trees.{Token, Tree, Trees, leaf, node, none, comma, Value, pattern_spelling, more_spelling, spelling}
 use Rattle.timbuk_grammar.proofs.Choices.{Among, here, through, choice_opens, all_pass}

@@ -1,9 +1,10 @@
 -- Equations: the labels of equations are read to their end exactly where they spell equations that are allowed.
-use Rattle.std.proofs.Common.{◌≡◌, ℕ, zero, suc, ◌+◌, ◌≤◌, ◌<◌, Bool, true, false, not, ◌&&◌, List, [], ◌∷◌, ◌++◌, fold, length, map, refl, ap, sym, ◌∙◌, subst, arith, append_assoc}
-use Rattle.std.specs.Prelude.{nat_le, Some, Ok, All, flat_map}
+use Rattle.std.proofs.Common.{◌≡◌, zero, suc, ◌+◌, ◌≤◌, ◌<◌, true, not, List, [], ◌∷◌, ◌++◌, fold, length, map, refl, ap, sym, ◌∙◌, subst, arith, append_assoc}
+use Rattle.std.specs.Prelude.{Some, Ok, All, flat_map}
 use Rattle.std.specs.List.{AllZip}
 use Rattle.std.proofs.lemmas.Bool.{not-true, leb-false, lt-leb}
-use Rattle.std.proofs.lemmas.List.{append-nil, length-append}
+use Rattle.std.proofs.lemmas.List.{append-nil, length-append, length-map}
+use Rattle.std.proofs.lemmas.Slice.Zip.{AllZip-long}
 use Rattle.std.proofs.lemmas.List.Sums.{fold-append}
 use Rattle.ranked_terms.specs.Terms.{occurrences, firsts}
 use Rattle.ranked_terms.specs.declared.term.Shape.{Shape}
@@ -17,10 +18,10 @@ use Rattle.timbuk_reader.specs.SpecText.{IsEquationFrom}
 use Rattle.timbuk_reader.specs.Declarations.{Declared, with_variable}
 use Rattle.timbuk_reader.specs.Reading.{End}
 use Rattle.timbuk_reader.proofs.Labels.{Label, label, labelled, labelled_pattern}
-use Rattle.timbuk_reader.proofs.TieLast.{settled, NotOpening}
+use Rattle.timbuk_reader.proofs.TieLast.{settled, NotOpening, onward}
 use Rattle.timbuk_reader.proofs.TieNames.{in_equation_left, in_equation_right}
 use Rattle.timbuk_reader.proofs.TiePatterns.{variables_in, all_short, all_taken, PatternFits, pattern_clear, pattern_fine}
-use Rattle.timbuk_reader.proofs.TieOnly.{pattern_only}
+use Rattle.timbuk_reader.proofs.TieOnly.{pattern_passed}
 use Rattle.timbuk_reader.proofs.TieShapes.{tree_occurrences, pattern_occurrences, shape_of-injective}
 use Rattle.timbuk_reader.proofs.TieVariables.{taken_firsts, grows, few_taken}
 use Rattle.timbuk_reader.proofs.TieSides.{at_rest, behind_left, rule_names, equals_read, equals_clear, AreShort, tree_short}
@@ -81,13 +82,11 @@ equation_only d e v end rest clear h =
     let names = rule_names d in
     let after = labelled_pattern v.1.1 ++ rest in
     let h0 : settled end (at_rest d) (labelled_pattern v.0 ++ (label v.1.0 ∷ after)) ≡ Ok e =
-        ap (settled end (at_rest d)) (sym (append_assoc (labelled_pattern v.0) (label v.1.0 ∷ labelled_pattern v.1.1) rest)) ∙ h in
-    let a = pattern_only place.EquationLeft v.0 in_equation_left (at_rest d) e end (label v.1.0 ∷ after) (omega arith) (equals_clear v.1.0 after) h0 in
+    ap (settled end (at_rest d)) (sym (append_assoc (labelled_pattern v.0) (label v.1.0 ∷ labelled_pattern v.1.1) rest)) ∙ h in
+    let a = pattern_passed place.EquationLeft v.0 in_equation_left (at_rest d) e end (label v.1.0 ∷ after) (omega arith) (equals_clear v.1.0 after) h0 in
     let left = behind_left a.shape (variables_in names v.0) d in
-    let h1 : settled end left (label v.1.0 ∷ after) ≡ Ok e =
-        sym (pattern_fine place.EquationLeft v.0 in_equation_left (at_rest d) a.shape a.fits end (label v.1.0 ∷ after) (equals_clear v.1.0 after)) ∙ h0 in
-    let h2 : settled end left after ≡ Ok e = sym (equals_read end left v.1.0 after (pattern_clear v.1.1 rest)) ∙ h1 in
-    let b = pattern_only place.EquationRight v.1.1 in_equation_right left e end rest (omega arith) clear h2 in
+    let h1 : settled end left after ≡ Ok e = onward (equals_read end left v.1.0 after (pattern_clear v.1.1 rest)) a.behind in
+    let b = pattern_passed place.EquationRight v.1.1 in_equation_right left e end rest (omega arith) clear h1 in
     record {
       sides = (a.shape, b.shape);
       shape = record {
@@ -139,13 +138,18 @@ pub equations_only : (vs : List (Value equation)) (d e : Declared) (end : End) (
 equations_only [] d e end rest room clear h = record { sides = []; shapes = tt; room = omega (arith, room) }
 equations_only (v ∷ vs) d e end rest room clear h =
     let h0 : settled end (at_rest d) (labelled equation v ++ (labelled_equations vs ++ rest)) ≡ Ok e =
-        ap (settled end (at_rest d)) (sym (append_assoc (labelled equation v) (labelled_equations vs) rest)) ∙ h in
+    ap (settled end (at_rest d)) (sym (append_assoc (labelled equation v) (labelled_equations vs) rest)) ∙ h in
     let a = equation_only d e v end (labelled_equations vs ++ rest) (equations_clear vs rest clear) h0 in
     let h1 : settled end (at_rest (with_equations (a.sides ∷ []) d)) (labelled_equations vs ++ rest) ≡ Ok e =
-        sym (equation_read d v a.sides a.shape a.room end (labelled_equations vs ++ rest) (equations_clear vs rest clear)) ∙ h0 in
+    onward (equation_read d v a.sides a.shape a.room end (labelled_equations vs ++ rest) (equations_clear vs rest clear)) h0 in
     let more : length (d.equations ++ a.sides ∷ []) ≡ length d.equations + 1 = length-append d.equations (a.sides ∷ []) in
     let b = equations_only vs (with_equations (a.sides ∷ []) d) e end rest (omega (arith, a.room, more)) clear h1 in
     record { sides = a.sides ∷ b.sides; shapes = (a.shape, b.shapes); room = omega (arith, b.room, more) }
+
+-- and what is read behind them
+pub equations_behind : (vs : List (Value equation)) (d e : Declared) (end : End) (rest : List Label) → NotOpening rest → (k : EquationsOnly d vs)
+    → settled end (at_rest d) (labelled_equations vs ++ rest) ≡ Ok e → settled end (at_rest (with_equations k.sides d)) rest ≡ Ok e
+equations_behind vs d e end rest clear k h = onward (equations_fine vs d k.sides k.shapes k.room end rest clear) h
 
 -- ---- the equations that they spell
 
@@ -158,7 +162,7 @@ equation_shape names v q short h =
     let rights : variables_in names v.1.1 ≡ occurrences q.right = tree_occurrences place.EquationRight v.1.1 names (shape_of q.right) h.right ∙ pattern_occurrences q.right in
     let left = fold with_variable [] (occurrences q.left) in
     let all : q.vars ≡ fold with_variable left (occurrences q.right) =
-        h.is_equation.vars_are ∙ sym (taken_firsts [] (occurrences q.left ++ occurrences q.right)) ∙ fold-append with_variable [] (occurrences q.left) (occurrences q.right) in
+    h.is_equation.vars_are ∙ sym (taken_firsts [] (occurrences q.left ++ occurrences q.right)) ∙ fold-append with_variable [] (occurrences q.left) (occurrences q.right) in
     let few : length (fold with_variable left (occurrences q.right)) ≤ 16 = subst (λ z. length z ≤ 16) all h.is_equation.vars_are_few in
     let more : length left ≤ length (fold with_variable left (occurrences q.right)) = grows left (occurrences q.right) in
     record {
@@ -182,6 +186,15 @@ equations_shapes names [] [] short h = tt
 equations_shapes names [] (q ∷ qs) short h = absurd h
 equations_shapes names (v ∷ vs) [] short h = absurd h
 equations_shapes names (v ∷ vs) (q ∷ qs) short h = (equation_shape names v q short h.0, equations_shapes names vs qs short h.1)
+
+-- the labels of equations that spell these
+pub equations_spelled : (vs : List (Value equation)) (d : Declared) (qs : List RewriteEquation) → AreShort (rule_names d) → AllZip (IsEquationFrom (rule_names d)) (map equation_of vs) qs → length d.equations + length qs ≤ 1024
+    → (end : End) (rest : List Label) → NotOpening rest → settled end (at_rest d) (labelled_equations vs ++ rest) ≡ settled end (at_rest (with_equations (map equation_sides qs) d)) rest
+equations_spelled vs d qs short h room end rest clear =
+    let shapes = equations_shapes (rule_names d) vs qs short h in
+    let long : length (map equation_sides qs) ≡ length vs = AllZip-long (EquationShape (rule_names d)) vs (map equation_sides qs) shapes in
+    let same : length (map equation_sides qs) ≡ length qs = length-map qs equation_sides in
+    equations_fine vs d (map equation_sides qs) shapes (omega (arith, long, same, room)) end rest clear
 
 pub equations_from : (names : Names) (vs : List (Value equation)) (qs : List RewriteEquation) → All IsEquation qs → AllZip (EquationShape names) vs (map equation_sides qs) → AllZip (IsEquationFrom names) (map equation_of vs) qs
 equations_from names [] [] are h = tt
@@ -218,4 +231,4 @@ same_equations (r ∷ rs) (q ∷ qs) h k e =
     let first : equation_sides r ≡ equation_sides q = cc in
     let rest : map equation_sides rs ≡ map equation_sides qs = cc in
     (λ i. same_equation r q (h 0 r (omega arith)) (k 0 q (omega arith)) (ap (λ (x : Shape × Shape). x.0) first) (ap (λ (x : Shape × Shape). x.1) first) i
-        ∷ same_equations rs qs (λ n d l. h (suc n) d (omega arith)) (λ n d l. k (suc n) d (omega arith)) rest i)
+    ∷ same_equations rs qs (λ n d l. h (suc n) d (omega arith)) (λ n d l. k (suc n) d (omega arith)) rest i)

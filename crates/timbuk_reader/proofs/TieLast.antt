@@ -1,6 +1,6 @@
 -- What the last token was doesn't matter where no parenthesis opens: outcomes with the last token forgotten.
-use Rattle.std.proofs.Common.{◌≡◌, ℕ, zero, suc, Bool, true, false, not, ◌&&◌, ◌||◌, ◌==◌, List, [], ◌∷◌, ◌++◌, refl, ap, sym, ◌∙◌, subst}
-use Rattle.std.specs.Prelude.{if◌then◌else◌, Option, Some, None, Result, Ok, Err, option_map}
+use Rattle.std.proofs.Common.{◌≡◌, ℕ, zero, suc, Bool, true, false, not, ◌&&◌, ◌||◌, ◌==◌, List, [], ◌∷◌, refl, ap, sym, ◌∙◌}
+use Rattle.std.specs.Prelude.{if◌then◌else◌, Option, Some, None, Ok, Err, option_map}
 use Rattle.ranked_terms.specs.declared.term.Shape.{Shape}
 use Rattle.ranked_terms.specs.declared.term.Shape.TheVariants as shape
 use Rattle.timbuk_lex.specs.declared.lexeme.Lexeme.{Lexeme}
@@ -11,9 +11,11 @@ use Rattle.timbuk_grammar.specs.declared.terminal.Terminal.TheVariants as termin
 use Rattle.timbuk_grammar.specs.Matching.{matches}
 use Rattle.timbuk_reader.specs.declared.fault.SpecKind.{SpecKind}
 use Rattle.timbuk_reader.specs.declared.fault.SpecKind.TheVariants as kind
-use Rattle.timbuk_reader.specs.Declarations.{Text, Declared, Started, Application, Last, any, leaf, constant, function, Head, no_head, state_head, symbol_head, Meaning, unknown, a_variable, a_state, a_symbol, meaning, current, with_current, has, with_variable, ends, add_rule, add_equation, add_transition, add_entry, uses, whole, placed_in, placed, binds, begins_transition, named, closes, adds}
-use Rattle.timbuk_reader.specs.Rows.{row, end_row, or as earlier, when, wrong_after, unexpected_after, wrong_arity, wrong_count, expected, is_closed_word, at_terminal, is_function, long_name, too_deep, one_too_many, over, meant, passed, is_use, is_unknown, is_double, variable_left, stands_twice, is_free, misnamed}
+use Rattle.timbuk_reader.specs.Declarations.{Text, Declared, Started, Application, Last, any, leaf, constant, function, Head, no_head, state_head, symbol_head, Meaning, unknown, a_variable, a_state, a_symbol, meaning, with_current, has, with_variable, ends, add_rule, add_equation, add_transition, add_entry, uses, whole, placed_in, placed, binds, begins_transition, named, closes, adds}
+use Rattle.timbuk_reader.specs.Rows.{row, end_row, or as earlier, when, wrong_after, unexpected_after, wrong_arity, wrong_count, expected, is_closed_word, is_function, long_name, too_deep, one_too_many, over, meant, passed, is_use, is_unknown, is_double, variable_left, stands_twice, is_free, misnamed}
 use Rattle.timbuk_reader.specs.Reading.{Outcome, End, end_by, unless}
+use Rattle.ta_core.specs.declared.spec.Spec.{Spec}
+use Rattle.timbuk_reader.specs.Spelled.{IsSpecOf}
 use Rattle.timbuk_reader.proofs.Labels.{Label, judge}
 
 abbrev pub with_last : Last → Declared → Declared
@@ -168,17 +170,17 @@ misnamed_last : (l : Last) (t : Terminal) (text : Text) (d : Declared) → misna
 unfolding misnamed
 misnamed_last l t text d =
     ap (λ m.
-      earlier (when (is_use t && is_unknown m) kind.UnknownName)
-      (earlier (when (is_double t text (with_last l d)) kind.DoubleName)
-      (earlier (when (variable_left t m (with_last l d)) kind.VariableLeft)
-      (earlier (when (stands_twice t m (with_last l d)) kind.NotLeftLinear)
-      (when (is_free t m (with_last l d)) kind.FreeVariable))))) (meant_last l t text d)
+    earlier (when (is_use t && is_unknown m) kind.UnknownName)
+    (earlier (when (is_double t text (with_last l d)) kind.DoubleName)
+    (earlier (when (variable_left t m (with_last l d)) kind.VariableLeft)
+    (earlier (when (stands_twice t m (with_last l d)) kind.NotLeftLinear)
+    (when (is_free t m (with_last l d)) kind.FreeVariable))))) (meant_last l t text d)
     ∙ (λ i.
-      earlier (when (is_use t && is_unknown (meant t text d)) kind.UnknownName)
-      (earlier (when (is_double_last l t text d i) kind.DoubleName)
-      (earlier (when (variable_left_last l t (meant t text d) d i) kind.VariableLeft)
-      (earlier (when (stands_twice_last l t (meant t text d) d i) kind.NotLeftLinear)
-      (when (is_free_last l t (meant t text d) d i) kind.FreeVariable)))))
+    earlier (when (is_use t && is_unknown (meant t text d)) kind.UnknownName)
+    (earlier (when (is_double_last l t text d i) kind.DoubleName)
+    (earlier (when (variable_left_last l t (meant t text d) d i) kind.VariableLeft)
+    (earlier (when (stands_twice_last l t (meant t text d) d i) kind.NotLeftLinear)
+    (when (is_free_last l t (meant t text d) d i) kind.FreeVariable)))))
 
 -- what follows a quiet token, and opens no parenthesis, has the rows that it has after any other
 quiet_after : (l : Last) (x : Lexeme) → IsQuiet l → matches terminal.OpenParen x ≡ false → wrong_after l x ≡ false
@@ -239,3 +241,35 @@ settled_row end d e x xs h = calm_unless (row (Some x.0) (forgets d) x.1) x.1 _ 
 pub settled_on : (end : End) (d : Declared) (x : Label) (xs : List Label) → row (Some x.0) (forgets d) x.1 ≡ None → IsQuiet (adds x.0 x.1.text d).last → NotOpening xs
     → settled end d (x ∷ xs) ≡ settled end (adds x.0 x.1.text d) xs
 settled_on end d x xs h q n = settled_step end d x xs h ∙ calm_judge end (adds x.0 x.1.text d) xs q n
+
+-- ---- outcomes
+
+-- an outcome, behind what was read
+pub onward : {a b c : Outcome} → a ≡ b → a ≡ c → b ≡ c
+onward e h = sym e ∙ h
+
+-- declarations without a fault, up to the last token
+pub record IsCalmOf (o : Outcome) (d : Declared) : Type 0 where
+  pub declared : Declared
+  pub is : o ≡ Ok declared
+  pub same : forgets declared ≡ d
+
+pub calm_read : (o : Outcome) (d : Declared) → calm o ≡ Ok d → IsCalmOf o d
+calm_read (Ok e) d h = record { declared = e; is = refl; same = cc }
+calm_read (Err fault) d h = cc
+
+-- what is declared spells a spec whatever the last token was
+pub spec_of_last : (l : Last) (d : Declared) (spec : Spec) → IsSpecOf d spec → IsSpecOf (with_last l d) spec
+spec_of_last l d spec h = record {
+  signature = h.signature;
+  vars = h.vars;
+  rules = h.rules;
+  are_rules = h.are_rules;
+  equations = h.equations;
+  are_equations = h.are_equations;
+  entries = h.entries;
+  extra = h.extra;
+  approximated = h.approximated;
+  initial = h.initial;
+  forbidden = h.forbidden;
+}

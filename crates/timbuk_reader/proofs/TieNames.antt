@@ -1,8 +1,6 @@
 -- The rows at the names of patterns.
-use Rattle.std.proofs.Common.{◌≡◌, ℕ, zero, suc, ◌+◌, ◌≤◌, ◌<◌, Bool, true, false, not, ◌&&◌, ◌||◌, ◌==◌, List, [], ◌∷◌, ◌++◌, fold, length, refl, ap, sym, ◌∙◌, subst}
+use Rattle.std.proofs.Common.{◌≡◌, ℕ, ◌+◌, Bool, true, false, not, ◌&&◌, ◌||◌, ◌==◌, List, [], ◌∷◌, length, refl, ap, sym, ◌∙◌, subst}
 use Rattle.std.specs.Prelude.{nat_lt, nat_le, Option, Some, None, option_map}
-use Rattle.std.specs.List.{list_any}
-use Rattle.std.specs.Str.{bytes_eq}
 use Rattle.std.proofs.lemmas.Bool.{and_parts, and_right, not-true}
 use Rattle.timbuk_lex.specs.declared.lexeme.Lexeme.{Lexeme}
 use Rattle.timbuk_lex.specs.declared.lexeme.TokenKind.{TokenKind}
@@ -19,7 +17,7 @@ use Rattle.timbuk_reader.specs.declared.fault.SpecKind.TheVariants as kind
 use Rattle.timbuk_reader.specs.declared.fault.LimitName.TheVariants as limit
 use Rattle.timbuk_reader.specs.Source.{text_of}
 use Rattle.timbuk_reader.specs.Naming.{Names, stands_for}
-use Rattle.timbuk_reader.specs.Declarations.{Text, Declared, Application, Meaning, unknown, a_variable, a_state, a_symbol, meaning, has, with_variable}
+use Rattle.timbuk_reader.specs.Declarations.{Text, Declared, Application, Meaning, unknown, a_variable, a_state, a_symbol, meaning, has}
 use Rattle.timbuk_reader.specs.Rows.{row, or as earlier, when, wrong_count, wrong_arity, expected, is_closed_word, at_terminal, long_name, too_deep, one_too_many, over, is_first, passed, is_use, is_unknown, is_double, variable_left, stands_twice, is_free, misnamed}
 use Rattle.timbuk_reader.proofs.TieLast.{forgets}
 

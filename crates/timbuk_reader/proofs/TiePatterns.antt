@@ -1,14 +1,13 @@
 -- Patterns: the labels of a tree are read to their end exactly where the tree stands for a pattern that is allowed there.
-use Rattle.std.proofs.Common.{◌≡◌, ℕ, zero, suc, ◌+◌, ◌≤◌, ◌<◌, max, Bool, true, false, not, ◌&&◌, ◌==◌, List, [], ◌∷◌, ◌++◌, fold, length, refl, ap, sym, ◌∙◌, subst, arith, append_assoc}
-use Rattle.std.specs.Prelude.{nat_lt, nat_le, if◌then◌else◌, Option, Some, None, Ok, unwrap_or}
+use Rattle.std.proofs.Common.{◌≡◌, ℕ, zero, suc, ◌+◌, ◌≤◌, ◌<◌, Bool, true, false, not, ◌&&◌, ◌==◌, List, [], ◌∷◌, ◌++◌, fold, length, refl, ap, sym, ◌∙◌, arith, append_assoc}
+use Rattle.std.specs.Prelude.{nat_lt, if◌then◌else◌, Option, Some, None, unwrap_or}
 use Rattle.std.specs.Option.{option_and_then}
-use Rattle.std.proofs.lemmas.Bool.{and_from, and_parts, and_right, not-true, leb-false, eqb-true, eq-eqb, lt-leb}
+use Rattle.std.proofs.lemmas.Bool.{and_parts, and_right, eqb-true, eq-eqb, lt-leb}
 use Rattle.std.proofs.lemmas.List.{append-nil, length-append}
 use Rattle.std.proofs.lemmas.List.Sums.{fold-append}
 use Rattle.ranked_terms.specs.declared.term.Shape.{Shape}
 use Rattle.ranked_terms.specs.declared.term.Shape.TheVariants as shape
 use Rattle.timbuk_grammar.specs.declared.terminal.Place.{Place}
-use Rattle.timbuk_grammar.specs.declared.terminal.Terminal.{Terminal}
 use Rattle.timbuk_grammar.specs.declared.terminal.Terminal.TheVariants as terminal
 use Rattle.timbuk_grammar.specs.Trees.{Token, Tree, Trees, leaf, node, none, comma}
 use Rattle.timbuk_grammar.proofs.Differ.{apart}
@@ -19,7 +18,7 @@ use Rattle.timbuk_reader.specs.Reading.{End}
 use Rattle.timbuk_reader.proofs.Labels.{Label, label, labelled_pattern, labelled_more}
 use Rattle.timbuk_reader.proofs.TieLast.{settled, NotOpening}
 use Rattle.timbuk_reader.proofs.TieNames.{IsPattern, in_left, in_right, in_equation_left, in_equation_right, in_whole, names_at, takes, fits, is_variable, starts, short, NameFits}
-use Rattle.timbuk_reader.proofs.TieSteps.{with_bound, inside, meant_variables, leaf_fine, leaf_only, opens_fine, opens_only, comma_fine, comma_only, close_fine, close_only}
+use Rattle.timbuk_reader.proofs.TieSteps.{with_bound, inside, meant_variables, leaf_fine, opens_fine, comma_fine, close_fine}
 
 -- ---- what is allowed
 
@@ -202,7 +201,7 @@ node_read {p = p} k n opening first more closing read_first read_more d s h end 
     let taken = and_parts (all_taken p d.bound d.own vs) _ (sym (all_taken-append p d.bound d.own vs ws) ∙ h.variables) in
     let after = labelled_more more ++ label closing ∷ rest in
     let name : NameFits p (text_of n) d =
-        record { is_short = short_parts.0; allowed = ap (λ z. fits p z d) a.means ∙ symbol_allowed p a.sym (length a.more) d deep; start = h.start } in
+    record { is_short = short_parts.0; allowed = ap (λ z. fits p z d) a.means ∙ symbol_allowed p a.sym (length a.more) d deep; start = h.start } in
     let first_fits : PatternFits first (inside p a.sym (suc (length a.more)) [] d) a.first = record {
       shape = a.first_is;
       nesting = omega (arith, h.nesting);

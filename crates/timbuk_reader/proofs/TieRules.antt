@@ -1,10 +1,10 @@
 -- Rules: the labels of rules are read to their end exactly where they spell rules that are allowed.
-use Rattle.std.proofs.Common.{◌≡◌, ◌≢◌, ℕ, zero, suc, ◌+◌, ◌≤◌, ◌<◌, Bool, true, false, not, ◌&&◌, List, [], ◌∷◌, ◌++◌, fold, length, map, Contains, refl, ap, sym, ◌∙◌, subst, arith, append_assoc}
+use Rattle.std.proofs.Common.{◌≡◌, zero, suc, ◌+◌, ◌≤◌, ◌<◌, Bool, true, false, not, ◌&&◌, List, [], ◌∷◌, ◌++◌, fold, length, map, refl, ap, sym, ◌∙◌, subst, arith, append_assoc}
 use Rattle.std.specs.Prelude.{nat_le, Some, Ok, All, flat_map}
-use Rattle.std.specs.List.{AllZip, AllPairs}
-use Rattle.std.proofs.lemmas.Bool.{and_from, and_parts, not-true, leb-false, lt-leb}
-use Rattle.std.proofs.lemmas.List.{append-nil, length-append}
-use Rattle.ranked_terms.specs.Terms as terms
+use Rattle.std.specs.List.{AllZip}
+use Rattle.std.proofs.lemmas.Bool.{leb-false, lt-leb}
+use Rattle.std.proofs.lemmas.List.{append-nil, length-append, length-map}
+use Rattle.std.proofs.lemmas.Slice.Zip.{AllZip-long}
 use Rattle.ranked_terms.specs.Terms.{occurrences, variables_of}
 use Rattle.ranked_terms.specs.declared.term.Shape.{Shape}
 use Rattle.trs_rules.specs.Rules.{RewriteRule, IsRule}
@@ -17,10 +17,10 @@ use Rattle.timbuk_reader.specs.SpecText.{IsRuleFrom}
 use Rattle.timbuk_reader.specs.Declarations.{Declared, with_variable}
 use Rattle.timbuk_reader.specs.Reading.{End}
 use Rattle.timbuk_reader.proofs.Labels.{Label, label, labelled, labelled_pattern}
-use Rattle.timbuk_reader.proofs.TieLast.{settled, NotOpening}
+use Rattle.timbuk_reader.proofs.TieLast.{settled, NotOpening, onward}
 use Rattle.timbuk_reader.proofs.TieNames.{in_left, in_right, is_variable}
 use Rattle.timbuk_reader.proofs.TiePatterns.{variables_in, all_short, all_taken, first_meaning, PatternFits, pattern_clear, pattern_fine}
-use Rattle.timbuk_reader.proofs.TieOnly.{pattern_only}
+use Rattle.timbuk_reader.proofs.TieOnly.{pattern_passed}
 use Rattle.timbuk_reader.proofs.TieShapes.{tree_occurrences, pattern_occurrences, shape_of-injective}
 use Rattle.timbuk_reader.proofs.TieVariables.{taken_firsts, contains_has, linear_taken, linear_list, bound_taken}
 use Rattle.timbuk_reader.proofs.TieSides.{at_rest, behind_left, rule_names, arrow_read, arrow_clear, AreShort, tree_short, first_no_variable}
@@ -87,13 +87,11 @@ rule_only d e v end rest clear h =
     let names = rule_names d in
     let after = labelled_pattern v.1.1 ++ rest in
     let h0 : settled end (at_rest d) (labelled_pattern v.0 ++ (label v.1.0 ∷ after)) ≡ Ok e =
-        ap (settled end (at_rest d)) (sym (append_assoc (labelled_pattern v.0) (label v.1.0 ∷ labelled_pattern v.1.1) rest)) ∙ h in
-    let a = pattern_only place.LeftSide v.0 in_left (at_rest d) e end (label v.1.0 ∷ after) (omega arith) (arrow_clear v.1.0 after) h0 in
+    ap (settled end (at_rest d)) (sym (append_assoc (labelled_pattern v.0) (label v.1.0 ∷ labelled_pattern v.1.1) rest)) ∙ h in
+    let a = pattern_passed place.LeftSide v.0 in_left (at_rest d) e end (label v.1.0 ∷ after) (omega arith) (arrow_clear v.1.0 after) h0 in
     let left = behind_left a.shape (variables_in names v.0) d in
-    let h1 : settled end left (label v.1.0 ∷ after) ≡ Ok e =
-        sym (pattern_fine place.LeftSide v.0 in_left (at_rest d) a.shape a.fits end (label v.1.0 ∷ after) (arrow_clear v.1.0 after)) ∙ h0 in
-    let h2 : settled end left after ≡ Ok e = sym (arrow_read end left v.1.0 after (pattern_clear v.1.1 rest)) ∙ h1 in
-    let b = pattern_only place.RightSide v.1.1 in_right left e end rest (omega arith) clear h2 in
+    let h1 : settled end left after ≡ Ok e = onward (arrow_read end left v.1.0 after (pattern_clear v.1.1 rest)) a.behind in
+    let b = pattern_passed place.RightSide v.1.1 in_right left e end rest (omega arith) clear h1 in
     let start = only_left (nat_le 4096 (length d.rules)) (is_variable (first_meaning names v.0)) a.fits.start in
     record {
       sides = (a.shape, b.shape);
@@ -148,13 +146,18 @@ pub rules_only : (vs : List (Value rule)) (d e : Declared) (end : End) (rest : L
 rules_only [] d e end rest room clear h = record { sides = []; shapes = tt; room = omega (arith, room) }
 rules_only (v ∷ vs) d e end rest room clear h =
     let h0 : settled end (at_rest d) (labelled rule v ++ (labelled_rules vs ++ rest)) ≡ Ok e =
-        ap (settled end (at_rest d)) (sym (append_assoc (labelled rule v) (labelled_rules vs) rest)) ∙ h in
+    ap (settled end (at_rest d)) (sym (append_assoc (labelled rule v) (labelled_rules vs) rest)) ∙ h in
     let a = rule_only d e v end (labelled_rules vs ++ rest) (rules_clear vs rest clear) h0 in
     let h1 : settled end (at_rest (with_rules (a.sides ∷ []) d)) (labelled_rules vs ++ rest) ≡ Ok e =
-        sym (rule_read d v a.sides a.shape a.room end (labelled_rules vs ++ rest) (rules_clear vs rest clear)) ∙ h0 in
+    onward (rule_read d v a.sides a.shape a.room end (labelled_rules vs ++ rest) (rules_clear vs rest clear)) h0 in
     let more : length (d.rules ++ a.sides ∷ []) ≡ length d.rules + 1 = length-append d.rules (a.sides ∷ []) in
     let b = rules_only vs (with_rules (a.sides ∷ []) d) e end rest (omega (arith, a.room, more)) clear h1 in
     record { sides = a.sides ∷ b.sides; shapes = (a.shape, b.shapes); room = omega (arith, b.room, more) }
+
+-- and what is read behind them
+pub rules_behind : (vs : List (Value rule)) (d e : Declared) (end : End) (rest : List Label) → NotOpening rest → (k : RulesOnly d vs)
+    → settled end (at_rest d) (labelled_rules vs ++ rest) ≡ Ok e → settled end (at_rest (with_rules k.sides d)) rest ≡ Ok e
+rules_behind vs d e end rest clear k h = onward (rules_fine vs d k.sides k.shapes k.room end rest clear) h
 
 -- ---- the rules that they spell
 
@@ -192,6 +195,15 @@ rules_shapes names [] (r ∷ rs) short h = absurd h
 rules_shapes names (v ∷ vs) [] short h = absurd h
 rules_shapes names (v ∷ vs) (r ∷ rs) short h = (rule_shape names v r short h.0, rules_shapes names vs rs short h.1)
 
+-- the labels of rules that spell these
+pub rules_spelled : (vs : List (Value rule)) (d : Declared) (rs : List RewriteRule) → AreShort (rule_names d) → AllZip (IsRuleFrom (rule_names d)) (map rule_of vs) rs → length d.rules + length rs ≤ 4096
+    → (end : End) (rest : List Label) → NotOpening rest → settled end (at_rest d) (labelled_rules vs ++ rest) ≡ settled end (at_rest (with_rules (map rule_sides rs) d)) rest
+rules_spelled vs d rs short h room end rest clear =
+    let shapes = rules_shapes (rule_names d) vs rs short h in
+    let long : length (map rule_sides rs) ≡ length vs = AllZip-long (RuleShape (rule_names d)) vs (map rule_sides rs) shapes in
+    let same : length (map rule_sides rs) ≡ length rs = length-map rs rule_sides in
+    rules_fine vs d (map rule_sides rs) shapes (omega (arith, long, same, room)) end rest clear
+
 pub rules_from : (names : Names) (vs : List (Value rule)) (rs : List RewriteRule) → All IsRule rs → AllZip (RuleShape names) vs (map rule_sides rs) → AllZip (IsRuleFrom names) (map rule_of vs) rs
 rules_from names [] [] are h = tt
 rules_from names [] (r ∷ rs) are h = absurd h
@@ -227,4 +239,4 @@ same_rules (r ∷ rs) (q ∷ qs) h k e =
     let first : rule_sides r ≡ rule_sides q = cc in
     let rest : map rule_sides rs ≡ map rule_sides qs = cc in
     (λ i. same_rule r q (h 0 r (omega arith)) (k 0 q (omega arith)) (ap (λ (x : Shape × Shape). x.0) first) (ap (λ (x : Shape × Shape). x.1) first) i
-        ∷ same_rules rs qs (λ n d l. h (suc n) d (omega arith)) (λ n d l. k (suc n) d (omega arith)) rest i)
+    ∷ same_rules rs qs (λ n d l. h (suc n) d (omega arith)) (λ n d l. k (suc n) d (omega arith)) rest i)

@@ -11,7 +11,7 @@ use Rattle.ranked_terms.specs.declared.term.Shape.{Shape}
 use Rattle.ranked_terms.specs.declared.term.Shape.TheVariants as shape
 use Rattle.ranked_terms.specs.declared.term.Shape.TheOpen as layer
 use Rattle.ranked_terms.specs.declared.term.Shape.TheViews.{out-Shape, out-roll-Shape}
-use Rattle.ranked_terms.specs.declared.term.Shape.TheFolds.{fold-Shape, fold-roll-Shape}
+use Rattle.ranked_terms.specs.declared.term.Shape.TheFolds.{fold-roll-Shape}
 use Rattle.ranked_terms.proofs.TermLaws.{pattern_induction, occurrences_var, occurrences_app}
 use Rattle.ta_core.specs.SpecRules.{shape_occurrences, shape_occurrences_step}
 use Rattle.timbuk_grammar.specs.declared.terminal.Place.{Place}
@@ -126,10 +126,10 @@ all_told (p ∷ ps) (q ∷ qs) h e =
 pub shape_of-injective : (p q : Pattern) → shape_of p ≡ shape_of q → p ≡ q
 shape_of-injective = pattern_induction IsTold
     (λ v. pattern_induction (λ q. shape_of (Var v) ≡ shape_of q → Var v ≡ q)
-      (λ w e. ap Var (same_variable v w (sym (shape_of_var v) ∙ (e ∙ shape_of_var w))))
-      (λ g qs more e. absurd (var_or_app v g (map shape_of qs) (sym (shape_of_var v) ∙ (e ∙ shape_of_app g qs)))))
+    (λ w e. ap Var (same_variable v w (sym (shape_of_var v) ∙ (e ∙ shape_of_var w))))
+    (λ g qs more e. absurd (var_or_app v g (map shape_of qs) (sym (shape_of_var v) ∙ (e ∙ shape_of_app g qs)))))
     (λ f ps each. pattern_induction (λ q. shape_of (App f ps) ≡ shape_of q → App f ps ≡ q)
-      (λ w e. absurd (var_or_app w f (map shape_of ps) (sym (shape_of_var w) ∙ (sym e ∙ shape_of_app f ps))))
-      (λ g qs more e.
-        let h = same_application f g (map shape_of ps) (map shape_of qs) (sym (shape_of_app f ps) ∙ (e ∙ shape_of_app g qs)) in
-        (λ i. App (h.0 i) (all_told ps qs each h.1 i))))
+    (λ w e. absurd (var_or_app w f (map shape_of ps) (sym (shape_of_var w) ∙ (sym e ∙ shape_of_app f ps))))
+    (λ g qs more e.
+    let h = same_application f g (map shape_of ps) (map shape_of qs) (sym (shape_of_app f ps) ∙ (e ∙ shape_of_app g qs)) in
+    (λ i. App (h.0 i) (all_told ps qs each h.1 i))))

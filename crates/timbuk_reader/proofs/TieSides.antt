@@ -1,19 +1,17 @@
 -- What rules and equations share: the state between declarations, the marks between their sides, and names that are short.
-use Rattle.std.proofs.Common.{◌≡◌, ℕ, zero, suc, ◌+◌, ◌≤◌, ◌<◌, Bool, true, false, not, ◌&&◌, List, [], ◌∷◌, ◌++◌, fold, length, get_or, map, refl, ap, sym, ◌∙◌, subst, arith}
-use Rattle.std.specs.Prelude.{nat_lt, Option, Some, None, position, All}
+use Rattle.std.proofs.Common.{◌≡◌, ℕ, zero, suc, ◌≤◌, true, false, not, List, [], ◌∷◌, fold, length, get_or, refl, ap, sym, ◌∙◌, subst, arith}
+use Rattle.std.specs.Prelude.{Option, Some, None, position, All}
 use Rattle.std.specs.Str.{bytes_eq}
 use Rattle.std.proofs.lemmas.Bool.{and_from, le-ltb}
-use Rattle.std.proofs.lemmas.List.{length-map, get_or-map}
 use Rattle.std.proofs.lemmas.List.Quantifiers.{position-Some}
 use Rattle.std.proofs.lemmas.Slice.Eq.{bytes_eq-Decides}
-use Rattle.ranked_terms.specs.Names.{Symbol, names_of, number_of}
+use Rattle.ranked_terms.specs.Names.{names_of, number_of}
 use Rattle.ranked_terms.specs.declared.term.Pattern.{Pattern}
 use Rattle.ranked_terms.specs.declared.term.Pattern.TheVariants.{Var}
 use Rattle.ranked_terms.specs.declared.term.Shape.{Shape}
 use Rattle.ranked_terms.specs.declared.term.Shape.TheVariants as shape
 use Rattle.trs_rules.specs.Rules.{IsVariable}
 use Rattle.timbuk_grammar.specs.declared.terminal.Place.{Place}
-use Rattle.timbuk_grammar.specs.declared.terminal.Terminal.{Terminal}
 use Rattle.timbuk_grammar.specs.declared.terminal.Terminal.TheVariants as terminal
 use Rattle.timbuk_grammar.specs.Trees.{Token, Tree, Trees, leaf, node, none, comma}
 use Rattle.timbuk_grammar.proofs.Differ.{apart}
@@ -33,6 +31,9 @@ use Rattle.timbuk_reader.proofs.TieShapes.{shape_of_var, shape_of-injective}
 -- no declaration is open
 abbrev pub at_rest : Declared → Declared
 at_rest d = record d { applications = []; shapes = []; bound = []; own = [] }
+
+pub rested : (d : Declared) → d.applications ≡ [] → d.shapes ≡ [] → d.bound ≡ [] → d.own ≡ [] → at_rest d ≡ d
+rested d a s b o = (λ i. record d { applications = sym a i; shapes = sym s i; bound = sym b i; own = sym o i })
 
 -- behind the first side of a rule or an equation, which has these variables
 abbrev pub behind_left : Shape → List ℕ → Declared → Declared
@@ -90,6 +91,11 @@ symbols_short (x ∷ xs) h = by (symbols_short xs (λ k d l. h (suc k) d (omega 
     by : All IsShort (names_of (signature_of xs)) → All IsShort (names_of (signature_of (x ∷ xs)))
     by more zero d l = h zero x (omega arith)
     by more (suc k) d l = more k d (omega arith)
+
+-- the names of rules and equations are short where those that are declared are
+pub rule_names_short : (declarations : List SymbolDeclaration) (variables : List Text) → AreSymbols declarations → All IsShort variables
+    → AreShort (record { symbols = signature_of declarations; variables = variables; states = [] })
+rule_names_short declarations variables h vars = record { symbols = symbols_short declarations h.names; variables = vars; states = λ k d l. absurd (omega arith) }
 
 found_short : (names : List Text) (text : Text) (i : ℕ) → All IsShort names → position (bytes_eq text) names ≡ Some i → IsShort text
 found_short names text i h e =

@@ -1,25 +1,23 @@
 -- The steps of a pattern: a name without arguments, a name with arguments, and the marks.
-use Rattle.std.proofs.Common.{◌≡◌, ℕ, zero, suc, ◌+◌, ◌≤◌, ◌<◌, Bool, true, false, not, ◌&&◌, ◌||◌, ◌==◌, List, [], ◌∷◌, ◌++◌, fold, length, refl, ap, sym, ◌∙◌, subst, true≢false}
-use Rattle.std.specs.Prelude.{nat_lt, nat_le, Option, Some, None, Ok}
-use Rattle.std.proofs.lemmas.Bool.{or_from, or_parts, not-true, leb-false, ltb-false, le-ltb, lt-leb}
+use Rattle.std.proofs.Common.{◌≡◌, ℕ, zero, suc, ◌≤◌, ◌<◌, Bool, true, false, not, ◌&&◌, ◌||◌, ◌==◌, List, [], ◌∷◌, fold, length, refl, ap, sym, ◌∙◌, subst, true≢false}
+use Rattle.std.specs.Prelude.{nat_lt, nat_le, Some, None, Ok}
+use Rattle.std.proofs.lemmas.Bool.{or_from, or_parts, leb-false, ltb-false, le-ltb, lt-leb}
 use Rattle.ranked_terms.specs.declared.term.Shape.{Shape}
 use Rattle.ranked_terms.specs.declared.term.Shape.TheVariants as shape
-use Rattle.timbuk_lex.specs.declared.lexeme.Lexeme.{Lexeme}
 use Rattle.timbuk_grammar.specs.declared.terminal.Place.{Place}
-use Rattle.timbuk_grammar.specs.declared.terminal.Terminal.{Terminal}
 use Rattle.timbuk_grammar.specs.declared.terminal.Terminal.TheVariants as terminal
-use Rattle.timbuk_grammar.specs.Matching.{matches, is_word, is_mark}
+use Rattle.timbuk_grammar.specs.Matching.{matches}
 use Rattle.timbuk_grammar.specs.Trees.{Token}
 use Rattle.timbuk_grammar.proofs.Differ.{apart}
 use Rattle.timbuk_reader.specs.declared.fault.SpecKind.TheVariants as kind
 use Rattle.timbuk_reader.specs.Source.{text_of}
 use Rattle.timbuk_reader.specs.Naming.{stands_for, leaf_shape}
-use Rattle.timbuk_reader.specs.Declarations.{Text, Declared, Application, Last, any, leaf, constant, function, Meaning, unknown, a_variable, a_state, a_symbol, meaning, with_variable, uses, placed, binds, begins_transition, named, adds}
-use Rattle.timbuk_reader.specs.Rows.{row, end_row, when, wrong_arity, wrong_after, wrong_count, unexpected_after, expected, is_closed_word, at_terminal, passed, misnamed}
+use Rattle.timbuk_reader.specs.Declarations.{Text, Declared, Last, any, leaf, constant, function, Meaning, unknown, a_variable, a_state, a_symbol, meaning, with_variable, uses, placed, binds, begins_transition, named, adds}
+use Rattle.timbuk_reader.specs.Rows.{row, end_row, when, wrong_arity, wrong_after, wrong_count, unexpected_after, expected, is_closed_word, passed, misnamed}
 use Rattle.timbuk_reader.specs.Reading.{End, unless}
 use Rattle.timbuk_reader.proofs.Labels.{Label, label, judge}
 use Rattle.timbuk_reader.proofs.TieLast.{with_last, forgets, calm, settled, IsQuiet, NotOpening, placed_last, calm_judge, settled_step, settled_row, settled_on, calm_unless}
-use Rattle.timbuk_reader.proofs.TieNames.{no_rows, no_row_yet, not_when, when_not, IsPlain, mark_plain, counts_not, plain_row, no_row_at, IsPattern, in_left, in_right, in_equation_left, in_equation_right, in_whole, names_at, meaning_is, fits, NameFits, name_fine, name_only}
+use Rattle.timbuk_reader.proofs.TieNames.{no_rows, no_row_yet, not_when, when_not, mark_plain, counts_not, plain_row, no_row_at, IsPattern, in_left, in_right, in_equation_left, in_equation_right, in_whole, names_at, meaning_is, fits, NameFits, name_fine, name_only}
 
 -- ---- states
 
@@ -213,7 +211,7 @@ opens_only {p = p} k n opening d e end rest h =
     record {
       name = f;
       symbol = opens_by k m opening d e end rest f.allowed
-      (sym (settled_step end d (label n) (label opening ∷ rest) r ∙ ap (λ z. calm (judge end z (label opening ∷ rest))) (name_adds k (text_of n) d)) ∙ h);
+          (sym (settled_step end d (label n) (label opening ∷ rest) r ∙ ap (λ z. calm (judge end z (label opening ∷ rest))) (name_adds k (text_of n) d)) ∙ h);
     }
 
 -- ---- marks

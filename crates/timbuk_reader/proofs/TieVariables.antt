@@ -1,12 +1,11 @@
 -- The variables that a declaration takes one after the other, against its lists of variables.
-use Rattle.std.proofs.Common.{◌≡◌, ◌≢◌, ℕ, zero, suc, ◌+◌, ◌≤◌, ◌<◌, Bool, true, false, not, ◌&&◌, ◌||◌, ◌==◌, nat_eq, cond, List, [], ◌∷◌, ◌++◌, fold, length, get_or, Contains, refl, ap, sym, ◌∙◌, subst, arith, append_assoc, true≢false}
+use Rattle.std.proofs.Common.{◌≡◌, ◌≢◌, ℕ, zero, suc, ◌+◌, ◌≤◌, ◌<◌, Bool, true, false, not, ◌&&◌, ◌||◌, ◌==◌, cond, List, [], ◌∷◌, ◌++◌, fold, length, get_or, Contains, refl, ap, sym, ◌∙◌, subst, arith, append_assoc}
 use Rattle.std.specs.Prelude.{nat_lt, nat_le, if◌then◌else◌, Some, None, is_some}
 use Rattle.std.specs.List.{AllPairs, list_any, prefix_len}
 use Rattle.std.proofs.lemmas.Bool.{and_from, and_parts, or_left, or_right, not-true, lt-ltb, le-ltb, ltb-true, ltb-false, lt-leb, leb-false, eqb-true, eq-eqb, false_from_ne_true}
 use Rattle.std.proofs.lemmas.List.{append-nil, get_or_append_left, get_or_at, length-append}
 use Rattle.std.proofs.lemmas.Map.Views.{Contains-from_any}
 use Rattle.ranked_terms.specs.Terms as terms
-use Rattle.ranked_terms.specs.Terms.{firsts, occurrences, variables_of}
 use Rattle.timbuk_grammar.specs.declared.terminal.Place.{Place}
 use Rattle.timbuk_grammar.specs.declared.terminal.Place.TheVariants as place
 use Rattle.timbuk_reader.specs.Declarations.{has, with_variable}
