@@ -2,6 +2,7 @@ pub mod Labels
 pub mod Labelled
 pub mod TieLast
 pub mod TieNames
+pub mod TieFits
 pub mod TieSteps
 pub mod TiePatterns
 pub mod TieOnly

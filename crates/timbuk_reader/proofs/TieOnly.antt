@@ -14,7 +14,8 @@ use Rattle.timbuk_reader.specs.Declarations.{Declared, Meaning, unknown, a_varia
 use Rattle.timbuk_reader.specs.Reading.{End}
 use Rattle.timbuk_reader.proofs.Labels.{Label, label, labelled_pattern, labelled_more}
 use Rattle.timbuk_reader.proofs.TieLast.{settled, NotOpening, onward}
-use Rattle.timbuk_reader.proofs.TieNames.{IsPattern, names_at, fits, short}
+use Rattle.timbuk_reader.proofs.TieNames.{IsPattern, names_at}
+use Rattle.timbuk_reader.proofs.TieFits.{fits, short}
 use Rattle.timbuk_reader.proofs.TieSteps.{with_bound, inside, meant_variables, leaf_only, opens_fine, opens_only, comma_fine, comma_only, close_only}
 use Rattle.timbuk_reader.proofs.TiePatterns.{variables_in, variables_among, all_short, all_short_among, all_taken, all_taken-append, PatternFits, MoreFit, both_from, applied_from, pattern_clear, more_clear, close_clear, regroup, pattern_fine, more_fine}
 

@@ -17,7 +17,8 @@ use Rattle.timbuk_reader.specs.Declarations.{Declared, Meaning, unknown, a_varia
 use Rattle.timbuk_reader.specs.Reading.{End}
 use Rattle.timbuk_reader.proofs.Labels.{Label, label, labelled_pattern, labelled_more}
 use Rattle.timbuk_reader.proofs.TieLast.{settled, NotOpening}
-use Rattle.timbuk_reader.proofs.TieNames.{IsPattern, in_left, in_right, in_equation_left, in_equation_right, in_whole, names_at, takes, fits, is_variable, starts, short, NameFits}
+use Rattle.timbuk_reader.proofs.TieNames.{IsPattern, in_left, in_right, in_equation_left, in_equation_right, in_whole, names_at}
+use Rattle.timbuk_reader.proofs.TieFits.{takes, fits, is_variable, starts, short, NameFits}
 use Rattle.timbuk_reader.proofs.TieSteps.{with_bound, inside, meant_variables, leaf_fine, opens_fine, comma_fine, close_fine}
 
 -- ---- what is allowed

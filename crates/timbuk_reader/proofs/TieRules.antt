@@ -18,7 +18,8 @@ use Rattle.timbuk_reader.specs.Declarations.{Declared, with_variable}
 use Rattle.timbuk_reader.specs.Reading.{End}
 use Rattle.timbuk_reader.proofs.Labels.{Label, label, labelled, labelled_pattern}
 use Rattle.timbuk_reader.proofs.TieLast.{settled, NotOpening, onward}
-use Rattle.timbuk_reader.proofs.TieNames.{in_left, in_right, is_variable}
+use Rattle.timbuk_reader.proofs.TieNames.{in_left, in_right}
+use Rattle.timbuk_reader.proofs.TieFits.{is_variable}
 use Rattle.timbuk_reader.proofs.TiePatterns.{variables_in, all_short, all_taken, first_meaning, PatternFits, pattern_clear, pattern_fine}
 use Rattle.timbuk_reader.proofs.TieOnly.{pattern_passed}
 use Rattle.timbuk_reader.proofs.TieShapes.{tree_occurrences, pattern_occurrences, shape_of-injective}

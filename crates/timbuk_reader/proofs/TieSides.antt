@@ -22,7 +22,8 @@ use Rattle.timbuk_reader.specs.Rows.{row, is_unknown, passed, misnamed}
 use Rattle.timbuk_reader.specs.Reading.{End}
 use Rattle.timbuk_reader.proofs.Labels.{Label, label}
 use Rattle.timbuk_reader.proofs.TieLast.{forgets, settled, NotOpening, settled_on}
-use Rattle.timbuk_reader.proofs.TieNames.{mark_plain, counts_not, plain_row, is_variable, short}
+use Rattle.timbuk_reader.proofs.TieNames.{mark_plain, counts_not, plain_row}
+use Rattle.timbuk_reader.proofs.TieFits.{is_variable, short}
 use Rattle.timbuk_reader.proofs.TiePatterns.{all_short, all_short_among, first_meaning, both_parts, applied_parts}
 use Rattle.timbuk_reader.proofs.TieShapes.{shape_of_var, shape_of-injective}
 

@@ -17,7 +17,8 @@ use Rattle.timbuk_reader.specs.Rows.{row, end_row, when, wrong_arity, wrong_afte
 use Rattle.timbuk_reader.specs.Reading.{End, unless}
 use Rattle.timbuk_reader.proofs.Labels.{Label, label, judge}
 use Rattle.timbuk_reader.proofs.TieLast.{with_last, forgets, calm, settled, IsQuiet, NotOpening, placed_last, calm_judge, settled_step, settled_row, settled_on, calm_unless}
-use Rattle.timbuk_reader.proofs.TieNames.{no_rows, no_row_yet, not_when, when_not, mark_plain, counts_not, plain_row, no_row_at, IsPattern, in_left, in_right, in_equation_left, in_equation_right, in_whole, names_at, meaning_is, fits, NameFits, name_fine, name_only}
+use Rattle.timbuk_reader.proofs.TieNames.{no_rows, no_row_yet, not_when, when_not, mark_plain, counts_not, plain_row, no_row_at, IsPattern, in_left, in_right, in_equation_left, in_equation_right, in_whole, names_at, meaning_is}
+use Rattle.timbuk_reader.proofs.TieFits.{fits, NameFits, name_fine, name_only}
 
 -- ---- states
 

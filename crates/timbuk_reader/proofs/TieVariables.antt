@@ -9,7 +9,7 @@ use Rattle.ranked_terms.specs.Terms as terms
 use Rattle.timbuk_grammar.specs.declared.terminal.Place.{Place}
 use Rattle.timbuk_grammar.specs.declared.terminal.Place.TheVariants as place
 use Rattle.timbuk_reader.specs.Declarations.{has, with_variable}
-use Rattle.timbuk_reader.proofs.TieNames.{is_twice, is_unbound, is_crowded, takes}
+use Rattle.timbuk_reader.proofs.TieFits.{is_twice, is_unbound, is_crowded, takes}
 use Rattle.timbuk_reader.proofs.TiePatterns.{all_taken}
 
 -- ---- one of these
