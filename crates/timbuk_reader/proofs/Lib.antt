@@ -37,3 +37,5 @@ pub mod TieShapes
 pub mod TieSides
 pub mod TieSteps
 pub mod TieVariables
+pub mod TieSectionsSteps
+pub mod TieSectionsStates

@@ -177,6 +177,23 @@ none_left : {X Y : Type 0} (A : X → Y → Type 0) (ys : List Y) → AllZip A [
 none_left A [] h = refl
 none_left A (y ∷ ys) h = absurd h
 
+-- ---- the first approximation
+
+same_states : (initial : List Text) (names : List Text) → (initial ++ []) ++ names ≡ initial ++ (names ++ [])
+same_states initial names = ap (λ l. l ++ names) (append-nil initial) ∙ ap (λ l. initial ++ l) (sym (append-nil names))
+
+pub first_states : (initial : List Text) (approximations : List (List Text × List ApproximationRule)) (names : List Text) (rules : List ApproximationRule) → approximations ≡ []
+    → (initial ++ extra_of approximations) ++ names ≡ initial ++ extra_of (approximations ++ (names, rules) ∷ [])
+first_states initial approximations names rules e =
+    ap (λ l. (initial ++ extra_of l) ++ names) e ∙ (same_states initial names ∙ ap (λ l. initial ++ extra_of (l ++ (names, rules) ∷ [])) (sym e))
+
+first_rules : (approximations : List (List Text × List ApproximationRule)) (names : List Text) (rules : List ApproximationRule) → approximations ≡ [] → rules ≡ rules_of (approximations ++ (names, rules) ∷ [])
+first_rules approximations names rules e = sym (append-nil rules) ∙ ap (λ l. rules_of (l ++ (names, rules) ∷ [])) (sym e)
+
+pub no_approximation : (approximations : List (List Text × List ApproximationRule)) → length approximations < 1 → approximations ≡ []
+no_approximation [] h = refl
+no_approximation (x ∷ xs) h = absurd (omega (arith, h))
+
 -- ---- what is allowed
 
 -- an automaton may be declared so
@@ -402,21 +419,6 @@ module _ {P Q : Type 0} (R : RuleDeclaration → P → Type 0) (T : EquationDecl
   }
 
   -- ---- an approximation more
-
-  same_states : (initial : List Text) (names : List Text) → (initial ++ []) ++ names ≡ initial ++ (names ++ [])
-  same_states initial names = ap (λ l. l ++ names) (append-nil initial) ∙ ap (λ l. initial ++ l) (sym (append-nil names))
-
-  first_states : (initial : List Text) (approximations : List (List Text × List ApproximationRule)) (names : List Text) (rules : List ApproximationRule) → approximations ≡ []
-      → (initial ++ extra_of approximations) ++ names ≡ initial ++ extra_of (approximations ++ (names, rules) ∷ [])
-  first_states initial approximations names rules e =
-      ap (λ l. (initial ++ extra_of l) ++ names) e ∙ (same_states initial names ∙ ap (λ l. initial ++ extra_of (l ++ (names, rules) ∷ [])) (sym e))
-
-  first_rules : (approximations : List (List Text × List ApproximationRule)) (names : List Text) (rules : List ApproximationRule) → approximations ≡ [] → rules ≡ rules_of (approximations ++ (names, rules) ∷ [])
-  first_rules approximations names rules e = sym (append-nil rules) ∙ ap (λ l. rules_of (l ++ (names, rules) ∷ [])) (sym e)
-
-  no_approximation : (approximations : List (List Text × List ApproximationRule)) → length approximations < 1 → approximations ≡ []
-  no_approximation [] h = refl
-  no_approximation (x ∷ xs) h = absurd (omega (arith, h))
 
   pub push_approximation : (title : Text) (names : List Text) (rules : List ApproximationRule) (p : Parts) (rs : List P) (qs : List Q) (es more : List Entry) → AreAllowed p rs qs es
       → 1 ≤ length p.automata → length p.approximations < 1 → AreNewNames (names_of symbols ++ variables) 16384 ((initial_states p.automata ++ extra_of p.approximations) ++ names)
