@@ -28,6 +28,10 @@ unless_ok : (o : Option SpecKind) (x : Lexeme) (r : Outcome) (e : Declared) → 
 unless_ok None x r e h = (refl, h)
 unless_ok (Some k) x r e h = cc
 
+-- where something is read to its end, no row fits its first token
+pub reads_row : (end : End) (d : Declared) (x : Label) (xs : List Label) (e : Declared) → reads end d (x ∷ xs) ≡ Ok e → row (Some x.0) d x.1 ≡ None
+reads_row end d x xs e h = (unless_ok (row (Some x.0) d x.1) x.1 (judge end (adds x.0 x.1.text d) xs) e h).0
+
 module _ {end : End} where
   pub no_tokens : {K : List Label → Type 0} (d : Declared) → IsTied end K d [] (Unit {0}) (λ w. d)
   no_tokens d = record { fine = λ w rest k. refl; only = λ rest e k h. (tt, h) }

@@ -1,7 +1,8 @@
 -- The state behind sections, and one section more.
-use Rattle.std.proofs.Common.{◌≡◌, ℕ, zero, suc, ◌+◌, ◌<◌, ◌≤◌, List, [], ◌∷◌, ◌++◌, length, map, Some, Ok, All, inl, inr, refl, sym, ap, subst, ◌∙◌, length-append, arith}
+use Rattle.std.proofs.Common.{◌≡◌, ℕ, zero, suc, ◌+◌, ◌<◌, ◌≤◌, false, ◌==◌, List, [], ◌∷◌, ◌++◌, length, map, Some, Ok, All, inl, inr, refl, sym, ap, subst, ◌∙◌, length-append, arith}
 use Rattle.std.specs.List.{AllZip, IsDistinct}
 use Rattle.std.specs.Str.{bytes_eq}
+use Rattle.std.proofs.lemmas.Bool.{false_from_ne_true, eqb-true}
 use Rattle.std.proofs.lemmas.List.{append-nil, map-append, length-map}
 use Rattle.std.proofs.lemmas.List.Elements.{All-nil}
 use Rattle.ranked_terms.specs.Names.{Symbol, names_of}
@@ -15,16 +16,17 @@ use Rattle.timbuk_reader.specs.Source.{RuleDeclaration, EquationDeclaration, Aut
 use Rattle.timbuk_reader.specs.Naming.{IsShort, Names}
 use Rattle.timbuk_reader.specs.Reading.{End}
 use Rattle.timbuk_reader.specs.SpecText.{title_of, IsRuleFrom, IsEquationFrom}
-use Rattle.timbuk_reader.proofs.Labels.{Label, labelled}
+use Rattle.timbuk_reader.proofs.Labels.{Label, label, labelled}
 use Rattle.timbuk_reader.proofs.TieLast.{NotOpening}
 use Rattle.timbuk_reader.proofs.TieSides as sides
 use Rattle.timbuk_reader.proofs.TieSides.{rule_names}
 use Rattle.timbuk_reader.proofs.TieRules.{rule_sides}
 use Rattle.timbuk_reader.proofs.TieEquations.{equation_sides}
+use Rattle.timbuk_reader.proofs.TieNamesRows.{room_for_automaton}
 use Rattle.timbuk_reader.proofs.TieNamesStates.{between}
 use Rattle.timbuk_reader.proofs.TieAutomatonStates.{put}
 use Rattle.timbuk_reader.proofs.TieAutomata.{IsAllowedAutomaton, started_by, next_automaton}
-use Rattle.timbuk_reader.proofs.TieApproximationSteps.{reads}
+use Rattle.timbuk_reader.proofs.TieApproximationSteps.{reads, reads_row}
 use Rattle.timbuk_reader.proofs.TieApproximationRows.{AreShort}
 use Rattle.timbuk_reader.proofs.TieApproximation.{closed, PatternsAreTied, with_approximation, approximation_tied}
 use Rattle.timbuk_reader.proofs.TieSectionsParts.{Parts, with_section, IsLate, initial_states, extra_of, IsDeclarable, AreAllowed, push_system, push_equations, push_automaton, push_approximation, pop_system, pop_equations, pop_automaton, pop_approximation, first_states, no_approximation}
@@ -132,9 +134,6 @@ module _ (end : End) (patterns : PatternsAreTied end) (symbols : List Symbol) (v
     pub before : AreSpelled p rules equations entries
     pub read : (rest : List Label) → NotOpening rest → reads end (spelled_at p rules equations entries) (labelled grammar.section v ++ rest) ≡ reads end (spelled_at (with_section (section_of v) p) rs qs es) rest
 
-  short_here : AreShort (state symbols variables (record { systems = []; equations = []; automata = []; approximations = [] }) [] [] [])
-  short_here = record { symbols = short_symbols; variables = short_variables; states = All-nil IsShort }
-
   short_sides : sides.AreShort names
   short_sides = record { symbols = short_symbols; variables = short_variables; states = All-nil IsShort }
 
@@ -153,3 +152,166 @@ module _ (end : End) (patterns : PatternsAreTied end) (symbols : List Symbol) (v
             ∙ ap (λ s. reads end (closed s) rest) (behind_system symbols variables (text_of v.1.0) (map rule_of v.1.1) p (map rule_sides k.front) (map rule_sides k.own) (map equation_sides qs) es)
             ∙ ap (λ l. reads end (closed_at (with_section (section_of (inl v)) p) l (map equation_sides qs) es) rest) (sym (map-append rule_sides k.front k.own) ∙ ap (map rule_sides) k.is);
       }
+
+  fine_equations : (v : Value grammar.equations) (p : Parts) (rs : List RewriteRule) (qs : List RewriteEquation) (es : List Entry) → IsShort (text_of v.1.0)
+      → AreSpelled (with_section (section_of (inr (inr (inl v)))) p) rs qs es → SectionFine (inr (inr (inl v))) p rs qs es
+  fine_equations v p rs qs es title h =
+      let k = pop_equations (IsRuleFrom names) (IsEquationFrom names) symbols variables (text_of v.1.0) (map equation_of v.1.1.1) p rs qs es h in
+      let fits : length (map equation_sides k.front) + length k.own ≤ 1024 = omega (arith, k.few, length-map k.front equation_sides) in
+      record {
+        rules = rs;
+        equations = k.front;
+        entries = es;
+        before = k.before;
+        read = λ rest clear.
+            equations_section_fine end (state symbols variables p (map rule_sides rs) (map equation_sides k.front) es) v k.own short_sides k.room title k.equations fits rest clear
+            ∙ ap (λ s. reads end (closed s) rest) (behind_equations symbols variables (text_of v.1.0) (map equation_of v.1.1.1) p (map rule_sides rs) (map equation_sides k.front) (map equation_sides k.own) es)
+            ∙ ap (λ l. reads end (closed_at (with_section (section_of (inr (inr (inl v)))) p) (map rule_sides rs) l es) rest) (sym (map-append equation_sides k.front k.own) ∙ ap (map equation_sides) k.is);
+      }
+
+  fine_automaton : (v : Value grammar.automaton) (p : Parts) (rs : List RewriteRule) (qs : List RewriteEquation) (es : List Entry) → IsShort (text_of v.1.0) → (p.automata ≡ [] → p.approximations ≡ [])
+      → AreSpelled (with_section (section_of (inr (inl v))) p) rs qs es → SectionFine (inr (inl v)) p rs qs es
+  fine_automaton v p rs qs es title late h =
+      let a = automaton_of v in
+      let k = pop_automaton (IsRuleFrom names) (IsEquationFrom names) symbols variables a p rs qs es late h in
+      let d = state symbols variables p (map rule_sides rs) (map equation_sides qs) es in
+      let tied = automaton_tied end d distinct short_symbols (fresh symbols variables p (map rule_sides rs) (map equation_sides qs) es late k.room) v in
+      let allowed : IsAllowedAutomaton d a = record { room = k.room; title = title; states = k.declarable.states; described = k.declarable.described; final_states = k.declarable.final_states; transitions = k.declarable.transitions } in
+      record {
+        rules = rs;
+        equations = qs;
+        entries = es;
+        before = k.before;
+        read = λ rest clear. tied.fine allowed rest clear ∙ ap (λ s. reads end s rest) (behind_automaton symbols variables p (map rule_sides rs) (map equation_sides qs) es late a k.room);
+      }
+
+  short_at : (p : Parts) (rs qs : Sides) (es : List Entry) → All IsShort (initial_states p.automata ++ extra_of p.approximations) → AreShort (state symbols variables p rs qs es)
+  short_at p rs qs es h = record { symbols = short_symbols; variables = short_variables; states = h }
+
+  some_there : (l : List AutomatonDeclaration) → 1 ≤ length l → (length l == 0) ≡ false
+  some_there l h = false_from_ne_true (length l == 0) (λ e. omega (arith, eqb-true (length l) 0 e, h))
+
+  there_are_some : (l : List AutomatonDeclaration) → (length l == 0) ≡ false → 1 ≤ length l
+  there_are_some [] h = cc
+  there_are_some (a ∷ l) h = omega arith
+
+  fine_approximation : (v : Value grammar.approximation) (p : Parts) (rs : List RewriteRule) (qs : List RewriteEquation) (es : List Entry) → IsShort (text_of v.1.0)
+      → AreSpelled (with_section (section_of (inr (inr (inr v)))) p) rs qs es → SectionFine (inr (inr (inr v))) p rs qs es
+  fine_approximation v p rs qs es title h =
+      let added = map state_of v.1.1.1.0 in
+      let ds = map approximation_rule_of v.1.1.1.1.1 in
+      let k = pop_approximation (IsRuleFrom names) (IsEquationFrom names) symbols variables (text_of v.1.0) added ds p rs qs es h in
+      let d = state symbols variables p (map rule_sides rs) (map equation_sides qs) [] in
+      let tied = approximation_tied {end = end} patterns d (short_at p (map rule_sides rs) (map equation_sides qs) [] k.before.states.short) k.before.states (omega arith) v in
+      record {
+        rules = rs;
+        equations = qs;
+        entries = [];
+        before = k.before;
+        read = λ rest clear.
+            tied.fine (es, record { place = record { late = some_there p.automata k.some; once = k.room }; short_title = title; states = k.states; entries = record { from = k.entries; few = omega (arith, k.few) } }) rest tt
+            ∙ ap (λ s. reads end (closed s) rest) (behind_approximation symbols variables (text_of v.1.0) added ds p (map rule_sides rs) (map equation_sides qs) [] es k.room);
+      }
+
+  pub section_fine : (v : Value grammar.section) (p : Parts) (rs : List RewriteRule) (qs : List RewriteEquation) (es : List Entry) → IsShort (title_of (section_of v)) → (p.automata ≡ [] → p.approximations ≡ [])
+      → AreSpelled (with_section (section_of v) p) rs qs es → SectionFine v p rs qs es
+  section_fine (inl v) p rs qs es title late h = fine_system v p rs qs es title h
+  section_fine (inr (inl v)) p rs qs es title late h = fine_automaton v p rs qs es title late h
+  section_fine (inr (inr (inl v))) p rs qs es title late h = fine_equations v p rs qs es title h
+  section_fine (inr (inr (inr v))) p rs qs es title late h = fine_approximation v p rs qs es title h
+
+  -- ---- what is read of a section
+
+  pub record SectionOnly (v : Value grammar.section) (p : Parts) (rest : List Label) (e : Declared) : Type 0 where
+    pub rules : Sides
+    pub equations : Sides
+    pub entries : List Entry
+    pub title : IsShort (title_of (section_of v))
+    pub late : IsLate (section_of v) p.automata
+    pub allowed : AreRead (with_section (section_of v) p) rules equations entries
+    pub behind : reads end (closed_at (with_section (section_of v) p) rules equations entries) rest ≡ Ok e
+
+  only_system : (v : Value grammar.system) (p : Parts) (rs qs : Sides) (es : List Entry) (rest : List Label) (e : Declared) → AreRead p rs qs es → NotOpening rest
+      → reads end (closed_at p rs qs es) (labelled grammar.system v ++ rest) ≡ Ok e → SectionOnly (inl v) p rest e
+  only_system v p rs qs es rest e h clear k =
+      let d = state symbols variables p rs qs es in
+      let o = system_only end d v rest e h.few_rules clear k in
+      let title = text_of v.1.0 in
+      let ds = map rule_of v.1.1 in
+      record {
+        rules = rs ++ o.sides;
+        equations = qs;
+        entries = es;
+        title = o.title;
+        late = tt;
+        allowed = push_system (AreRuleSides names) (AreEquationSides names) symbols variables title ds p rs o.sides qs es h o.room o.rules o.few;
+        behind = ap (λ s. reads end (closed s) rest) (sym (behind_system symbols variables title ds p rs o.sides qs es)) ∙ o.behind;
+      }
+
+  only_equations : (v : Value grammar.equations) (p : Parts) (rs qs : Sides) (es : List Entry) (rest : List Label) (e : Declared) → AreRead p rs qs es → NotOpening rest
+      → reads end (closed_at p rs qs es) (labelled grammar.equations v ++ rest) ≡ Ok e → SectionOnly (inr (inr (inl v))) p rest e
+  only_equations v p rs qs es rest e h clear k =
+      let d = state symbols variables p rs qs es in
+      let o = equations_section_only end d v rest e h.few_equations clear k in
+      let title = text_of v.1.0 in
+      let ds = map equation_of v.1.1.1 in
+      record {
+        rules = rs;
+        equations = qs ++ o.sides;
+        entries = es;
+        title = o.title;
+        late = tt;
+        allowed = push_equations (AreRuleSides names) (AreEquationSides names) symbols variables title ds p rs qs o.sides es h o.room o.equations o.few;
+        behind = ap (λ s. reads end (closed s) rest) (sym (behind_equations symbols variables title ds p rs qs o.sides es)) ∙ o.behind;
+      }
+
+  abbrev behind_first : List Label → List Label
+  behind_first [] = []
+  behind_first (x ∷ xs) = xs
+
+  -- the tie of an automaton can only be stated where there is room for one
+  room_for : (v : Value grammar.automaton) (p : Parts) (rs qs : Sides) (es : List Entry) (rest : List Label) (e : Declared) → reads end (closed_at p rs qs es) (labelled grammar.automaton v ++ rest) ≡ Ok e → length p.automata < 2
+  room_for v p rs qs es rest e k = room_for_automaton (closed_at p rs qs es) v.0.lexeme (reads_row end (closed_at p rs qs es) (label v.0) (behind_first (labelled grammar.automaton v) ++ rest) e k)
+
+  only_automaton : (v : Value grammar.automaton) (p : Parts) (rs qs : Sides) (es : List Entry) (rest : List Label) (e : Declared) → AreRead p rs qs es → (p.automata ≡ [] → p.approximations ≡ []) → NotOpening rest
+      → reads end (closed_at p rs qs es) (labelled grammar.automaton v ++ rest) ≡ Ok e → SectionOnly (inr (inl v)) p rest e
+  only_automaton v p rs qs es rest e h late clear k =
+      let d = state symbols variables p rs qs es in
+      let a = automaton_of v in
+      let room = room_for v p rs qs es rest e k in
+      let o = (automaton_tied end d distinct short_symbols (fresh symbols variables p rs qs es late room) v).only rest e clear k in
+      record {
+        rules = rs;
+        equations = qs;
+        entries = es;
+        title = o.0.title;
+        late = tt;
+        allowed = push_automaton (AreRuleSides names) (AreEquationSides names) symbols variables a p rs qs es h room (record { states = o.0.states; described = o.0.described; final_states = o.0.final_states; transitions = o.0.transitions });
+        behind = ap (λ s. reads end s rest) (sym (behind_automaton symbols variables p rs qs es late a room)) ∙ o.1;
+      }
+
+  only_approximation : (v : Value grammar.approximation) (p : Parts) (rs qs : Sides) (es : List Entry) (rest : List Label) (e : Declared) → AreRead p rs qs es
+      → reads end (closed_at p rs qs es) (labelled grammar.approximation v ++ rest) ≡ Ok e → SectionOnly (inr (inr (inr v))) p rest e
+  only_approximation v p rs qs es rest e h k =
+      let d = state symbols variables p rs qs es in
+      let added = map state_of v.1.1.1.0 in
+      let ds = map approximation_rule_of v.1.1.1.1.1 in
+      let title = text_of v.1.0 in
+      let o = (approximation_tied {end = end} patterns d (short_at p rs qs es h.states.short) h.states h.few_entries v).only rest e tt k in
+      let some = there_are_some p.automata o.0.1.place.late in
+      record {
+        rules = rs;
+        equations = qs;
+        entries = es ++ o.0.0;
+        title = o.0.1.short_title;
+        late = some;
+        allowed = push_approximation (AreRuleSides names) (AreEquationSides names) symbols variables title added ds p rs qs es o.0.0 h some o.0.1.place.once o.0.1.states o.0.1.entries.from o.0.1.entries.few;
+        behind = ap (λ s. reads end (closed s) rest) (sym (behind_approximation symbols variables title added ds p rs qs es o.0.0 o.0.1.place.once)) ∙ o.1;
+      }
+
+  pub section_only : (v : Value grammar.section) (p : Parts) (rs qs : Sides) (es : List Entry) (rest : List Label) (e : Declared) → AreRead p rs qs es → (p.automata ≡ [] → p.approximations ≡ []) → NotOpening rest
+      → reads end (closed_at p rs qs es) (labelled grammar.section v ++ rest) ≡ Ok e → SectionOnly v p rest e
+  section_only (inl v) p rs qs es rest e h late clear k = only_system v p rs qs es rest e h clear k
+  section_only (inr (inl v)) p rs qs es rest e h late clear k = only_automaton v p rs qs es rest e h late clear k
+  section_only (inr (inr (inl v))) p rs qs es rest e h late clear k = only_equations v p rs qs es rest e h clear k
+  section_only (inr (inr (inr v))) p rs qs es rest e h late clear k = only_approximation v p rs qs es rest e h k
