@@ -39,3 +39,4 @@ pub mod TieSteps
 pub mod TieVariables
 pub mod TieSectionsSteps
 pub mod TieSectionsStates
+pub mod TieSections

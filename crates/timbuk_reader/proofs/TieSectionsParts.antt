@@ -173,7 +173,7 @@ none_zip : {X Y : Type 0} (A B : X → Y → Type 0) (ys : List Y) → AllZip A 
 none_zip A B [] h = tt
 none_zip A B (y ∷ ys) h = absurd h
 
-none_left : {X Y : Type 0} (A : X → Y → Type 0) (ys : List Y) → AllZip A [] ys → [] ≡ ys
+pub none_left : {X Y : Type 0} (A : X → Y → Type 0) (ys : List Y) → AllZip A [] ys → [] ≡ ys
 none_left A [] h = refl
 none_left A (y ∷ ys) h = absurd h
 

@@ -106,19 +106,20 @@ module _ (symbols : List Symbol) (variables : List Text) where
       let lengths : length (extra_of p.approximations) + length names ≡ length (extra_of (p.approximations ++ (names, rules) ∷ [])) = sym (length-append (extra_of p.approximations) names) ∙ ap length extra in
       λ i. record (at p rs qs (es ++ more)) { approximations = count i; initial = record (initial_of symbols p.automata) { states = states i }; extra = lengths i }
 
--- ---- one section against the judge
+-- ---- what sections spell
 
-module _ (end : End) (patterns : PatternsAreTied end) (symbols : List Symbol) (variables : List Text) (short_symbols : All IsShort (names_of symbols)) (short_variables : All IsShort variables) (distinct : IsDistinct bytes_eq (names_of symbols ++ variables)) where
-  abbrev names : Names
-  names = record { symbols = symbols; variables = variables; states = [] }
+module _ (symbols : List Symbol) (variables : List Text) where
+  -- the names that may stand in rules and equations
+  abbrev pub names_of_sides : Names
+  names_of_sides = record { symbols = symbols; variables = variables; states = [] }
 
   -- sections that spell these rules, equations and entries
   abbrev pub AreSpelled : Parts → List RewriteRule → List RewriteEquation → List Entry → Type 0
-  AreSpelled = AreAllowed (IsRuleFrom names) (IsEquationFrom names) symbols variables
+  AreSpelled = AreAllowed (IsRuleFrom names_of_sides) (IsEquationFrom names_of_sides) symbols variables
 
   -- sections whose rules and equations have these sides
   abbrev pub AreRead : Parts → Sides → Sides → List Entry → Type 0
-  AreRead = AreAllowed (AreRuleSides names) (AreEquationSides names) symbols variables
+  AreRead = AreAllowed (AreRuleSides names_of_sides) (AreEquationSides names_of_sides) symbols variables
 
   abbrev pub closed_at : Parts → Sides → Sides → List Entry → Declared
   closed_at p rs qs es = closed (state symbols variables p rs qs es)
@@ -126,21 +127,24 @@ module _ (end : End) (patterns : PatternsAreTied end) (symbols : List Symbol) (v
   abbrev pub spelled_at : Parts → List RewriteRule → List RewriteEquation → List Entry → Declared
   spelled_at p rs qs es = closed_at p (map rule_sides rs) (map equation_sides qs) es
 
+-- ---- one section against the judge
+
+module _ (end : End) (patterns : PatternsAreTied end) (symbols : List Symbol) (variables : List Text) (short_symbols : All IsShort (names_of symbols)) (short_variables : All IsShort variables) (distinct : IsDistinct bytes_eq (names_of symbols ++ variables)) where
   -- what is spelled before a section, and that the section is read
   pub record SectionFine (v : Value grammar.section) (p : Parts) (rs : List RewriteRule) (qs : List RewriteEquation) (es : List Entry) : Type 0 where
     pub rules : List RewriteRule
     pub equations : List RewriteEquation
     pub entries : List Entry
-    pub before : AreSpelled p rules equations entries
-    pub read : (rest : List Label) → NotOpening rest → reads end (spelled_at p rules equations entries) (labelled grammar.section v ++ rest) ≡ reads end (spelled_at (with_section (section_of v) p) rs qs es) rest
+    pub before : AreSpelled symbols variables p rules equations entries
+    pub read : (rest : List Label) → NotOpening rest → reads end (spelled_at symbols variables p rules equations entries) (labelled grammar.section v ++ rest) ≡ reads end (spelled_at symbols variables (with_section (section_of v) p) rs qs es) rest
 
-  short_sides : sides.AreShort names
+  short_sides : sides.AreShort (names_of_sides symbols variables)
   short_sides = record { symbols = short_symbols; variables = short_variables; states = All-nil IsShort }
 
   fine_system : (v : Value grammar.system) (p : Parts) (rs : List RewriteRule) (qs : List RewriteEquation) (es : List Entry) → IsShort (text_of v.1.0)
-      → AreSpelled (with_section (section_of (inl v)) p) rs qs es → SectionFine (inl v) p rs qs es
+      → AreSpelled symbols variables (with_section (section_of (inl v)) p) rs qs es → SectionFine (inl v) p rs qs es
   fine_system v p rs qs es title h =
-      let k = pop_system (IsRuleFrom names) (IsEquationFrom names) symbols variables (text_of v.1.0) (map rule_of v.1.1) p rs qs es h in
+      let k = pop_system (IsRuleFrom (names_of_sides symbols variables)) (IsEquationFrom (names_of_sides symbols variables)) symbols variables (text_of v.1.0) (map rule_of v.1.1) p rs qs es h in
       let fits : length (map rule_sides k.front) + length k.own ≤ 4096 = omega (arith, k.few, length-map k.front rule_sides) in
       record {
         rules = k.front;
@@ -150,13 +154,13 @@ module _ (end : End) (patterns : PatternsAreTied end) (symbols : List Symbol) (v
         read = λ rest clear.
             system_fine end (state symbols variables p (map rule_sides k.front) (map equation_sides qs) es) v k.own short_sides k.room title k.rules fits rest clear
             ∙ ap (λ s. reads end (closed s) rest) (behind_system symbols variables (text_of v.1.0) (map rule_of v.1.1) p (map rule_sides k.front) (map rule_sides k.own) (map equation_sides qs) es)
-            ∙ ap (λ l. reads end (closed_at (with_section (section_of (inl v)) p) l (map equation_sides qs) es) rest) (sym (map-append rule_sides k.front k.own) ∙ ap (map rule_sides) k.is);
+            ∙ ap (λ l. reads end (closed_at symbols variables (with_section (section_of (inl v)) p) l (map equation_sides qs) es) rest) (sym (map-append rule_sides k.front k.own) ∙ ap (map rule_sides) k.is);
       }
 
   fine_equations : (v : Value grammar.equations) (p : Parts) (rs : List RewriteRule) (qs : List RewriteEquation) (es : List Entry) → IsShort (text_of v.1.0)
-      → AreSpelled (with_section (section_of (inr (inr (inl v)))) p) rs qs es → SectionFine (inr (inr (inl v))) p rs qs es
+      → AreSpelled symbols variables (with_section (section_of (inr (inr (inl v)))) p) rs qs es → SectionFine (inr (inr (inl v))) p rs qs es
   fine_equations v p rs qs es title h =
-      let k = pop_equations (IsRuleFrom names) (IsEquationFrom names) symbols variables (text_of v.1.0) (map equation_of v.1.1.1) p rs qs es h in
+      let k = pop_equations (IsRuleFrom (names_of_sides symbols variables)) (IsEquationFrom (names_of_sides symbols variables)) symbols variables (text_of v.1.0) (map equation_of v.1.1.1) p rs qs es h in
       let fits : length (map equation_sides k.front) + length k.own ≤ 1024 = omega (arith, k.few, length-map k.front equation_sides) in
       record {
         rules = rs;
@@ -166,14 +170,14 @@ module _ (end : End) (patterns : PatternsAreTied end) (symbols : List Symbol) (v
         read = λ rest clear.
             equations_section_fine end (state symbols variables p (map rule_sides rs) (map equation_sides k.front) es) v k.own short_sides k.room title k.equations fits rest clear
             ∙ ap (λ s. reads end (closed s) rest) (behind_equations symbols variables (text_of v.1.0) (map equation_of v.1.1.1) p (map rule_sides rs) (map equation_sides k.front) (map equation_sides k.own) es)
-            ∙ ap (λ l. reads end (closed_at (with_section (section_of (inr (inr (inl v)))) p) (map rule_sides rs) l es) rest) (sym (map-append equation_sides k.front k.own) ∙ ap (map equation_sides) k.is);
+            ∙ ap (λ l. reads end (closed_at symbols variables (with_section (section_of (inr (inr (inl v)))) p) (map rule_sides rs) l es) rest) (sym (map-append equation_sides k.front k.own) ∙ ap (map equation_sides) k.is);
       }
 
   fine_automaton : (v : Value grammar.automaton) (p : Parts) (rs : List RewriteRule) (qs : List RewriteEquation) (es : List Entry) → IsShort (text_of v.1.0) → (p.automata ≡ [] → p.approximations ≡ [])
-      → AreSpelled (with_section (section_of (inr (inl v))) p) rs qs es → SectionFine (inr (inl v)) p rs qs es
+      → AreSpelled symbols variables (with_section (section_of (inr (inl v))) p) rs qs es → SectionFine (inr (inl v)) p rs qs es
   fine_automaton v p rs qs es title late h =
       let a = automaton_of v in
-      let k = pop_automaton (IsRuleFrom names) (IsEquationFrom names) symbols variables a p rs qs es late h in
+      let k = pop_automaton (IsRuleFrom (names_of_sides symbols variables)) (IsEquationFrom (names_of_sides symbols variables)) symbols variables a p rs qs es late h in
       let d = state symbols variables p (map rule_sides rs) (map equation_sides qs) es in
       let tied = automaton_tied end d distinct short_symbols (fresh symbols variables p (map rule_sides rs) (map equation_sides qs) es late k.room) v in
       let allowed : IsAllowedAutomaton d a = record { room = k.room; title = title; states = k.declarable.states; described = k.declarable.described; final_states = k.declarable.final_states; transitions = k.declarable.transitions } in
@@ -196,11 +200,11 @@ module _ (end : End) (patterns : PatternsAreTied end) (symbols : List Symbol) (v
   there_are_some (a ∷ l) h = omega arith
 
   fine_approximation : (v : Value grammar.approximation) (p : Parts) (rs : List RewriteRule) (qs : List RewriteEquation) (es : List Entry) → IsShort (text_of v.1.0)
-      → AreSpelled (with_section (section_of (inr (inr (inr v)))) p) rs qs es → SectionFine (inr (inr (inr v))) p rs qs es
+      → AreSpelled symbols variables (with_section (section_of (inr (inr (inr v)))) p) rs qs es → SectionFine (inr (inr (inr v))) p rs qs es
   fine_approximation v p rs qs es title h =
       let added = map state_of v.1.1.1.0 in
       let ds = map approximation_rule_of v.1.1.1.1.1 in
-      let k = pop_approximation (IsRuleFrom names) (IsEquationFrom names) symbols variables (text_of v.1.0) added ds p rs qs es h in
+      let k = pop_approximation (IsRuleFrom (names_of_sides symbols variables)) (IsEquationFrom (names_of_sides symbols variables)) symbols variables (text_of v.1.0) added ds p rs qs es h in
       let d = state symbols variables p (map rule_sides rs) (map equation_sides qs) [] in
       let tied = approximation_tied {end = end} patterns d (short_at p (map rule_sides rs) (map equation_sides qs) [] k.before.states.short) k.before.states (omega arith) v in
       record {
@@ -214,7 +218,7 @@ module _ (end : End) (patterns : PatternsAreTied end) (symbols : List Symbol) (v
       }
 
   pub section_fine : (v : Value grammar.section) (p : Parts) (rs : List RewriteRule) (qs : List RewriteEquation) (es : List Entry) → IsShort (title_of (section_of v)) → (p.automata ≡ [] → p.approximations ≡ [])
-      → AreSpelled (with_section (section_of v) p) rs qs es → SectionFine v p rs qs es
+      → AreSpelled symbols variables (with_section (section_of v) p) rs qs es → SectionFine v p rs qs es
   section_fine (inl v) p rs qs es title late h = fine_system v p rs qs es title h
   section_fine (inr (inl v)) p rs qs es title late h = fine_automaton v p rs qs es title late h
   section_fine (inr (inr (inl v))) p rs qs es title late h = fine_equations v p rs qs es title h
@@ -228,11 +232,11 @@ module _ (end : End) (patterns : PatternsAreTied end) (symbols : List Symbol) (v
     pub entries : List Entry
     pub title : IsShort (title_of (section_of v))
     pub late : IsLate (section_of v) p.automata
-    pub allowed : AreRead (with_section (section_of v) p) rules equations entries
-    pub behind : reads end (closed_at (with_section (section_of v) p) rules equations entries) rest ≡ Ok e
+    pub allowed : AreRead symbols variables (with_section (section_of v) p) rules equations entries
+    pub behind : reads end (closed_at symbols variables (with_section (section_of v) p) rules equations entries) rest ≡ Ok e
 
-  only_system : (v : Value grammar.system) (p : Parts) (rs qs : Sides) (es : List Entry) (rest : List Label) (e : Declared) → AreRead p rs qs es → NotOpening rest
-      → reads end (closed_at p rs qs es) (labelled grammar.system v ++ rest) ≡ Ok e → SectionOnly (inl v) p rest e
+  only_system : (v : Value grammar.system) (p : Parts) (rs qs : Sides) (es : List Entry) (rest : List Label) (e : Declared) → AreRead symbols variables p rs qs es → NotOpening rest
+      → reads end (closed_at symbols variables p rs qs es) (labelled grammar.system v ++ rest) ≡ Ok e → SectionOnly (inl v) p rest e
   only_system v p rs qs es rest e h clear k =
       let d = state symbols variables p rs qs es in
       let o = system_only end d v rest e h.few_rules clear k in
@@ -244,12 +248,12 @@ module _ (end : End) (patterns : PatternsAreTied end) (symbols : List Symbol) (v
         entries = es;
         title = o.title;
         late = tt;
-        allowed = push_system (AreRuleSides names) (AreEquationSides names) symbols variables title ds p rs o.sides qs es h o.room o.rules o.few;
+        allowed = push_system (AreRuleSides (names_of_sides symbols variables)) (AreEquationSides (names_of_sides symbols variables)) symbols variables title ds p rs o.sides qs es h o.room o.rules o.few;
         behind = ap (λ s. reads end (closed s) rest) (sym (behind_system symbols variables title ds p rs o.sides qs es)) ∙ o.behind;
       }
 
-  only_equations : (v : Value grammar.equations) (p : Parts) (rs qs : Sides) (es : List Entry) (rest : List Label) (e : Declared) → AreRead p rs qs es → NotOpening rest
-      → reads end (closed_at p rs qs es) (labelled grammar.equations v ++ rest) ≡ Ok e → SectionOnly (inr (inr (inl v))) p rest e
+  only_equations : (v : Value grammar.equations) (p : Parts) (rs qs : Sides) (es : List Entry) (rest : List Label) (e : Declared) → AreRead symbols variables p rs qs es → NotOpening rest
+      → reads end (closed_at symbols variables p rs qs es) (labelled grammar.equations v ++ rest) ≡ Ok e → SectionOnly (inr (inr (inl v))) p rest e
   only_equations v p rs qs es rest e h clear k =
       let d = state symbols variables p rs qs es in
       let o = equations_section_only end d v rest e h.few_equations clear k in
@@ -261,7 +265,7 @@ module _ (end : End) (patterns : PatternsAreTied end) (symbols : List Symbol) (v
         entries = es;
         title = o.title;
         late = tt;
-        allowed = push_equations (AreRuleSides names) (AreEquationSides names) symbols variables title ds p rs qs o.sides es h o.room o.equations o.few;
+        allowed = push_equations (AreRuleSides (names_of_sides symbols variables)) (AreEquationSides (names_of_sides symbols variables)) symbols variables title ds p rs qs o.sides es h o.room o.equations o.few;
         behind = ap (λ s. reads end (closed s) rest) (sym (behind_equations symbols variables title ds p rs qs o.sides es)) ∙ o.behind;
       }
 
@@ -270,11 +274,11 @@ module _ (end : End) (patterns : PatternsAreTied end) (symbols : List Symbol) (v
   behind_first (x ∷ xs) = xs
 
   -- the tie of an automaton can only be stated where there is room for one
-  room_for : (v : Value grammar.automaton) (p : Parts) (rs qs : Sides) (es : List Entry) (rest : List Label) (e : Declared) → reads end (closed_at p rs qs es) (labelled grammar.automaton v ++ rest) ≡ Ok e → length p.automata < 2
-  room_for v p rs qs es rest e k = room_for_automaton (closed_at p rs qs es) v.0.lexeme (reads_row end (closed_at p rs qs es) (label v.0) (behind_first (labelled grammar.automaton v) ++ rest) e k)
+  room_for : (v : Value grammar.automaton) (p : Parts) (rs qs : Sides) (es : List Entry) (rest : List Label) (e : Declared) → reads end (closed_at symbols variables p rs qs es) (labelled grammar.automaton v ++ rest) ≡ Ok e → length p.automata < 2
+  room_for v p rs qs es rest e k = room_for_automaton (closed_at symbols variables p rs qs es) v.0.lexeme (reads_row end (closed_at symbols variables p rs qs es) (label v.0) (behind_first (labelled grammar.automaton v) ++ rest) e k)
 
-  only_automaton : (v : Value grammar.automaton) (p : Parts) (rs qs : Sides) (es : List Entry) (rest : List Label) (e : Declared) → AreRead p rs qs es → (p.automata ≡ [] → p.approximations ≡ []) → NotOpening rest
-      → reads end (closed_at p rs qs es) (labelled grammar.automaton v ++ rest) ≡ Ok e → SectionOnly (inr (inl v)) p rest e
+  only_automaton : (v : Value grammar.automaton) (p : Parts) (rs qs : Sides) (es : List Entry) (rest : List Label) (e : Declared) → AreRead symbols variables p rs qs es → (p.automata ≡ [] → p.approximations ≡ []) → NotOpening rest
+      → reads end (closed_at symbols variables p rs qs es) (labelled grammar.automaton v ++ rest) ≡ Ok e → SectionOnly (inr (inl v)) p rest e
   only_automaton v p rs qs es rest e h late clear k =
       let d = state symbols variables p rs qs es in
       let a = automaton_of v in
@@ -286,12 +290,12 @@ module _ (end : End) (patterns : PatternsAreTied end) (symbols : List Symbol) (v
         entries = es;
         title = o.0.title;
         late = tt;
-        allowed = push_automaton (AreRuleSides names) (AreEquationSides names) symbols variables a p rs qs es h room (record { states = o.0.states; described = o.0.described; final_states = o.0.final_states; transitions = o.0.transitions });
+        allowed = push_automaton (AreRuleSides (names_of_sides symbols variables)) (AreEquationSides (names_of_sides symbols variables)) symbols variables a p rs qs es h room (record { states = o.0.states; described = o.0.described; final_states = o.0.final_states; transitions = o.0.transitions });
         behind = ap (λ s. reads end s rest) (sym (behind_automaton symbols variables p rs qs es late a room)) ∙ o.1;
       }
 
-  only_approximation : (v : Value grammar.approximation) (p : Parts) (rs qs : Sides) (es : List Entry) (rest : List Label) (e : Declared) → AreRead p rs qs es
-      → reads end (closed_at p rs qs es) (labelled grammar.approximation v ++ rest) ≡ Ok e → SectionOnly (inr (inr (inr v))) p rest e
+  only_approximation : (v : Value grammar.approximation) (p : Parts) (rs qs : Sides) (es : List Entry) (rest : List Label) (e : Declared) → AreRead symbols variables p rs qs es
+      → reads end (closed_at symbols variables p rs qs es) (labelled grammar.approximation v ++ rest) ≡ Ok e → SectionOnly (inr (inr (inr v))) p rest e
   only_approximation v p rs qs es rest e h k =
       let d = state symbols variables p rs qs es in
       let added = map state_of v.1.1.1.0 in
@@ -305,12 +309,12 @@ module _ (end : End) (patterns : PatternsAreTied end) (symbols : List Symbol) (v
         entries = es ++ o.0.0;
         title = o.0.1.short_title;
         late = some;
-        allowed = push_approximation (AreRuleSides names) (AreEquationSides names) symbols variables title added ds p rs qs es o.0.0 h some o.0.1.place.once o.0.1.states o.0.1.entries.from o.0.1.entries.few;
+        allowed = push_approximation (AreRuleSides (names_of_sides symbols variables)) (AreEquationSides (names_of_sides symbols variables)) symbols variables title added ds p rs qs es o.0.0 h some o.0.1.place.once o.0.1.states o.0.1.entries.from o.0.1.entries.few;
         behind = ap (λ s. reads end (closed s) rest) (sym (behind_approximation symbols variables title added ds p rs qs es o.0.0 o.0.1.place.once)) ∙ o.1;
       }
 
-  pub section_only : (v : Value grammar.section) (p : Parts) (rs qs : Sides) (es : List Entry) (rest : List Label) (e : Declared) → AreRead p rs qs es → (p.automata ≡ [] → p.approximations ≡ []) → NotOpening rest
-      → reads end (closed_at p rs qs es) (labelled grammar.section v ++ rest) ≡ Ok e → SectionOnly v p rest e
+  pub section_only : (v : Value grammar.section) (p : Parts) (rs qs : Sides) (es : List Entry) (rest : List Label) (e : Declared) → AreRead symbols variables p rs qs es → (p.automata ≡ [] → p.approximations ≡ []) → NotOpening rest
+      → reads end (closed_at symbols variables p rs qs es) (labelled grammar.section v ++ rest) ≡ Ok e → SectionOnly v p rest e
   section_only (inl v) p rs qs es rest e h late clear k = only_system v p rs qs es rest e h clear k
   section_only (inr (inl v)) p rs qs es rest e h late clear k = only_automaton v p rs qs es rest e h late clear k
   section_only (inr (inr (inl v))) p rs qs es rest e h late clear k = only_equations v p rs qs es rest e h clear k
