@@ -40,3 +40,4 @@ pub mod TieVariables
 pub mod TieSectionsSteps
 pub mod TieSectionsStates
 pub mod TieSections
+pub mod TieSectionsSpells

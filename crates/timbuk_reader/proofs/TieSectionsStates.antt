@@ -37,11 +37,11 @@ Sides = List (Shape × Shape)
 
 -- ---- states
 
-abbrev initial_of : List Symbol → List AutomatonDeclaration → Started
+abbrev pub initial_of : List Symbol → List AutomatonDeclaration → Started
 initial_of symbols [] = no_automaton
 initial_of symbols (first ∷ others) = started_by symbols first
 
-abbrev second_of : List Symbol → List AutomatonDeclaration → Started
+abbrev pub second_of : List Symbol → List AutomatonDeclaration → Started
 second_of symbols [] = no_automaton
 second_of symbols (first ∷ []) = no_automaton
 second_of symbols (first ∷ second ∷ others) = started_by symbols second
