@@ -118,12 +118,6 @@ pub record IsSpelledBy (source : Source) (spec : Spec) : Type 0 where
   pub spec_of : IsSpecOf (spelled_at (symbols_of source) source.variables (parts_of source.sections) spec.rules spec.equations spec.entries) spec
 
 module _ (source : Source) (spec : Spec) (h : Spells source spec) where
-  symbols : List Symbol
-  symbols = symbols_of source
-
-  signature : spec.signature ≡ symbols_of source
-  signature = h.signature
-
   -- a fact about the signature and the variables of the spec
   abbrev here : (F : List Symbol → List Text → Type 0) → F spec.signature spec.vars → F (symbols_of source) source.variables
   here F k = subst (λ (z : List Symbol × List Text). F z.0 z.1) (λ i. (h.signature i, h.vars i)) k
@@ -144,9 +138,6 @@ module _ (source : Source) (spec : Spec) (h : Spells source spec) where
   -- a fact about the automata
   abbrev there : (F : List AutomatonDeclaration → Type 0) → F (h.first ∷ h.others) → F (automata_in source.sections)
   there F k = subst F (sym h.automata) k
-
-  names_all : Names
-  names_all = record { symbols = symbols_of source; variables = source.variables; states = h.first.states ++ extra_states source.sections }
 
   rules : AllZip (IsRuleFrom (names_of_sides (symbols_of source) source.variables)) (all_of (systems_in source.sections)) spec.rules
   rules = here (λ ss vs. AllZip (IsRuleFrom (record { symbols = ss; variables = vs; states = [] })) (all_of (systems_in source.sections)) spec.rules) h.rules
@@ -197,3 +188,83 @@ module _ (source : Source) (spec : Spec) (h : Spells source spec) where
           (other_to (symbols_of source) source.variables h.first h.others spec.forbidden forbidden);
     };
   }
+
+-- ---- and what is read
+
+-- a source that is read so, and the spec that has what is read
+pub record IsReadAs (source : Source) (spec : Spec) : Type 0 where
+  pub symbols : AreSymbols source.symbols
+  pub variables : AreNewNames (names_of (symbols_of source)) 1024 source.variables
+  pub orderly : AreOrderly source.sections
+  pub some : 1 ≤ length (automata_in source.sections)
+  pub rules : Sides
+  pub equations : Sides
+  pub entries : List Entry
+  pub read : AreRead (symbols_of source) source.variables (parts_of source.sections) rules equations entries
+  pub spec_of : IsSpecOf (closed_at (symbols_of source) source.variables (parts_of source.sections) rules equations entries) spec
+
+module _ (source : Source) (spec : Spec) (h : IsReadAs source spec) where
+  -- a fact about the symbols and the variables
+  abbrev of_spec : (F : List Symbol → List Text → Type 0) → F (symbols_of source) source.variables → F spec.signature spec.vars
+  of_spec F k = subst (λ (z : List Symbol × List Text). F z.0 z.1) (λ i. (sym h.spec_of.signature i, sym h.spec_of.vars i)) k
+
+  rule_sides_are : length spec.rules ≡ length h.rules
+  rule_sides_are = sym (length-map spec.rules rule_sides) ∙ ap length h.spec_of.rules
+
+  equation_sides_are : length spec.equations ≡ length h.equations
+  equation_sides_are = sym (length-map spec.equations equation_sides) ∙ ap length h.spec_of.equations
+
+  rules_read : AllZip (IsRuleFrom (names_of_sides (symbols_of source) source.variables)) (all_of (systems_in source.sections)) spec.rules
+  rules_read =
+      rules_by_sides (names_of_sides (symbols_of source) source.variables) (all_of (systems_in source.sections)) spec.rules h.spec_of.are_rules
+      (subst (λ rs. AllZip (AreRuleSides (names_of_sides (symbols_of source) source.variables)) (all_of (systems_in source.sections)) rs) (sym h.spec_of.rules) h.read.rules)
+
+  equations_read : AllZip (IsEquationFrom (names_of_sides (symbols_of source) source.variables)) (all_of (equations_in source.sections)) spec.equations
+  equations_read =
+      equations_by_sides (names_of_sides (symbols_of source) source.variables) (all_of (equations_in source.sections)) spec.equations h.spec_of.are_equations
+      (subst (λ qs. AllZip (AreEquationSides (names_of_sides (symbols_of source) source.variables)) (all_of (equations_in source.sections)) qs) (sym h.spec_of.equations) h.read.equations)
+
+  spells_by : (l : List AutomatonDeclaration) → automata_in source.sections ≡ l → Spells source spec
+  spells_by [] e = let none : length (automata_in source.sections) ≡ 0 = ap length e in absurd (omega (arith, h.some, none))
+  spells_by (first ∷ others) e =
+      let ss = symbols_of source in
+      let vs = source.variables in
+      let extra = extra_states source.sections in
+      let automata : AreDeclarable ss vs (first ∷ others) = record { each = subst (All (IsDeclarable ss vs)) e h.read.automata; few = subst (λ l. length l ≤ 2) e h.read.two_automata } in
+      let states = subst (λ l. AreNewNames (names_of ss ++ vs) 16384 (initial_states l ++ extra)) e h.read.states in
+      let entries = subst (λ l. AllZip (IsEntryFrom (record { symbols = ss; variables = vs; states = initial_states l ++ extra })) (entries_of (approximation_rules source.sections)) h.entries) e h.read.entries in
+      let initial = first_from ss vs first extra spec.initial (All-head (IsDeclarable ss vs) first others automata.each)
+          (subst (λ l. IsAutomatonOf (length (initial_states l ++ extra) - length extra) (record (initial_of ss l) { states = initial_states l ++ extra }) spec.initial) e h.spec_of.initial) in
+      let forbidden = other_from ss vs first others spec.forbidden automata (subst (λ l. IsAutomatonOf (length (second_of ss l).states) (second_of ss l) spec.forbidden) e h.spec_of.forbidden) in
+      let rules_count = rule_sides_are in
+      let equations_count = equation_sides_are in
+      let entries_count : length spec.entries ≡ length h.entries = ap length h.spec_of.entries in
+      record {
+        titles = h.orderly.titles;
+        symbols = h.symbols;
+        signature = h.spec_of.signature;
+        variables = subst (λ zs. AreNewNames (names_of zs) 1024 vs) (sym h.spec_of.signature) h.variables;
+        vars = h.spec_of.vars;
+        one_system = h.read.one_system;
+        few_rules = omega (arith, h.read.few_rules, rules_count);
+        rules = of_spec (λ zs ws. AllZip (IsRuleFrom (record { symbols = zs; variables = ws; states = [] })) (all_of (systems_in source.sections)) spec.rules) rules_read;
+        one_equations = h.read.one_equations;
+        few_equations = omega (arith, h.read.few_equations, equations_count);
+        equations = of_spec (λ zs ws. AllZip (IsEquationFrom (record { symbols = zs; variables = ws; states = [] })) (all_of (equations_in source.sections)) spec.equations) equations_read;
+        first = first;
+        others = others;
+        automata = e;
+        states = of_spec (λ zs ws. AreNewNames (names_of zs ++ ws) 16384 (first.states ++ extra)) states;
+        initial = subst (λ zs. IsAutomatonFrom zs first spec.initial) (sym h.spec_of.signature) initial;
+        forbidden = of_spec (λ zs ws. IsForbiddenFrom zs (names_of zs ++ ws) others spec.forbidden) forbidden;
+        one_approximation = h.read.one_approximation;
+        none_early = h.orderly.early;
+        approximated = h.spec_of.approximated;
+        extra = h.spec_of.extra;
+        few_entries = omega (arith, h.read.few_entries, entries_count);
+        entries = of_spec (λ zs ws. AllZip (IsEntryFrom (record { symbols = zs; variables = ws; states = first.states ++ extra })) (entries_of (approximation_rules source.sections)) spec.entries)
+            (subst (λ es. AllZip (IsEntryFrom (record { symbols = ss; variables = vs; states = first.states ++ extra })) (entries_of (approximation_rules source.sections)) es) (sym h.spec_of.entries) entries);
+      }
+
+  pub spells : Spells source spec
+  spells = spells_by (automata_in source.sections) refl
