@@ -41,3 +41,4 @@ pub mod TieSectionsSteps
 pub mod TieSectionsStates
 pub mod TieSections
 pub mod TieSectionsSpells
+pub mod TieSectionsFile

@@ -159,15 +159,25 @@ module _ (end : End) (d : Declared) (v : Value grammar.equations) where
 
 -- ---- an automaton
 
+pub ok_below : (o : Outcome) (e : Declared) → calm o ≡ Ok e → (c : Declared) × (o ≡ Ok c)
+ok_below (Ok c) e h = (c, refl)
+ok_below (Err f) e h = cc
+
+-- what leads somewhere is told exactly
+pub leads_tied : (end : End) (d e : Declared) (xs : List Label) (P : Type 0) → Leads d xs P e → IsTied end Whatever d xs P (λ w. e)
+leads_tied end d e xs P leads = record {
+  fine = λ w rest k. ap calm (leads-fine end d e xs rest P leads w);
+  only = λ rest o k h.
+      let b = ok_below (judge end d (xs ++ rest)) o h in
+      let w = leads-only end d e xs rest P b.0 leads b.1 in
+      (w, sym (ap calm (leads-fine end d e xs rest P leads w)) ∙ h);
+}
+
 resting_quiet : (l : Last) → IsResting l → IsQuiet l
 resting_quiet any h = tt
 resting_quiet leaf h = tt
 resting_quiet constant h = absurd h
 resting_quiet function h = absurd h
-
-ok_below : (o : Outcome) (e : Declared) → calm o ≡ Ok e → (c : Declared) × (o ≡ Ok c)
-ok_below (Ok c) e h = (c, refl)
-ok_below (Err f) e h = cc
 
 module _ (end : End) (d : Declared) (distinct : IsDistinct bytes_eq (names_of d.symbols ++ d.variables)) (short_symbols : All IsShort (names_of d.symbols)) (fresh : current (next_automaton d) ≡ no_automaton) (v : Value grammar.automaton) where
   abbrev pub behind_automaton : Declared
@@ -177,13 +187,9 @@ module _ (end : End) (d : Declared) (distinct : IsDistinct bytes_eq (names_of d.
   automaton_tied =
       let l = last_of v in
       let s = put (started_by d.symbols (automaton_of v)) (between l (next_automaton d)) in
-      let leads = automaton_leads d distinct short_symbols fresh any tt v in
-      let on = λ (w : IsAllowedAutomaton d (automaton_of v)) (rest : List Label) (k : NotOpening rest).
-          ap calm (leads-fine end (closed d) s (labelled grammar.automaton v) rest _ leads w) ∙ calm_judge end s rest (resting_quiet l (last_of-resting v)) k in
+      let tied = leads_tied end (closed d) s (labelled grammar.automaton v) (IsAllowedAutomaton d (automaton_of v)) (automaton_leads d distinct short_symbols fresh any tt v) in
+      let calmed = λ (rest : List Label) (k : NotOpening rest). calm_judge end s rest (resting_quiet l (last_of-resting v)) k in
       record {
-        fine = on;
-        only = λ rest e k h.
-            let b = ok_below (judge end (closed d) (labelled grammar.automaton v ++ rest)) e h in
-            let w = leads-only end (closed d) s (labelled grammar.automaton v) rest _ b.0 leads b.1 in
-            (w, sym (on w rest k) ∙ h);
+        fine = λ w rest k. tied.fine w rest tt ∙ calmed rest k;
+        only = λ rest e k h. let a = tied.only rest e tt h in (a.0, sym (calmed rest k) ∙ a.1);
       }
