@@ -42,3 +42,4 @@ pub mod TieSectionsStates
 pub mod TieSections
 pub mod TieSectionsSpells
 pub mod TieSectionsFile
+pub mod TieSectionsTexts
