@@ -3,7 +3,6 @@ pub mod Labelled
 pub mod OneSpec
 pub mod OneSpecParts
 pub mod OneSpecSets
-pub mod OneSpecShapes
 pub mod TieApproximation
 pub mod TieApproximationEntries
 pub mod TieApproximationPatterns

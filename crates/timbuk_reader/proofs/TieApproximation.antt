@@ -32,7 +32,7 @@ use Rattle.timbuk_reader.proofs.TieNamesRows.{IsNew, title_row, short_title, is_
 use Rattle.timbuk_reader.proofs.TieNamesTexts.{IsNew-middle, AreNewNames-push}
 use Rattle.timbuk_reader.proofs.TieApproximationRows.{amid, is_quiet, names_at, AreShort, IsLeaf, leaf_meaning, arity_right, name_arity, simple_row}
 use Rattle.timbuk_reader.proofs.TieApproximationTokens.{with_entries, behind_at, at_tied, open_bracket_tied, arrow_tied, close_bracket_tied, close_entries_tied}
-use Rattle.timbuk_reader.proofs.TieApproximationEntries.{IsBegun, AreEntriesHere, with_rule, short_with, with_none, with_more, some_tied}
+use Rattle.timbuk_reader.proofs.TieApproximationEntries.{IsBegun, AreEntriesHere, with_rule, with_none, with_more, some_tied}
 
 -- ---- the whole pattern of a rule
 
@@ -197,7 +197,7 @@ module _ (end : End) (patterns : PatternsAreTied end) where
       let r = approximation_rule_of v in
       let rules = map approximation_rule_of vs in
       by_witness
-      (in_turn (rule_tied v d short) (λ w. rules_tied vs (with_entries d w.0) (short_with d w.0 short) (omega (arith, w.1.few, length-append d.entries w.0))))
+      (in_turn (rule_tied v d short) (λ w. rules_tied vs (with_entries d w.0) short (omega (arith, w.1.few, length-append d.entries w.0))))
       (λ z. let k = rules_parted d r rules z.0 z.1 in (k.own, k.others))
       (λ w. (w.0.0 ++ w.1.0, rules_joint d r rules w.0.0 w.1.0 w.0.1 w.1.1))
       (λ z. let k = rules_parted d r rules z.0 z.1 in ap closed (with_more d k.own.0 k.others.0) ∙ ap (λ es. closed (with_entries d es)) k.is)
@@ -336,8 +336,18 @@ next_approximation d = record d { approximations = d.approximations + 1 }
 abbrev pub with_approximation : Declared → List Text → List Entry → Declared
 with_approximation d names es = with_entries (with_extra (next_approximation d) names) es
 
-short_names : (d : Declared) (names : List Text) → AreShort d → AreNewNames (taken d) 16384 (d.initial.states ++ names) → AreShort (with_extra d names)
-short_names d names short h = record { symbols = short.symbols; variables = short.variables; states = h.short }
+module _ {end : End} (d : Declared) where
+  pub title_tied : (v : Token (terminal.Named place.Title)) → IsTied end Whatever (closed d) (label v ∷ []) (IsShort (text_of v)) (λ w. closed d)
+  unfolding adds
+  title_tied v = one_token (closed d) v (IsShort (text_of v)) (λ w. title_row (closed d) v.lexeme (record { applications = refl; last = tt }) v.matched w) (λ h. short_title (closed d) v.lexeme h)
+
+  pub states_word_tied : (v : Token terminal.States) → IsTied end Whatever (closed d) (label v ∷ []) (Unit {0}) (λ w. closed d)
+  unfolding adds
+  states_word_tied v = free_token (closed d) v (simple_row terminal.States (closed d) v.lexeme refl refl v.matched)
+
+  pub rules_word_tied : (v : Token terminal.Rules) → IsTied end Whatever (closed d) (label v ∷ []) (Unit {0}) (λ w. closed d)
+  unfolding adds
+  rules_word_tied v = free_token (closed d) v (simple_row terminal.Rules (closed d) v.lexeme refl refl v.matched)
 
 module _ {end : End} (patterns : PatternsAreTied end) (d : Declared) (short : AreShort d) (known : AreNewNames (taken d) 16384 d.initial.states) (few : length d.entries ≤ 1024) where
   word_tied : (v : Token terminal.Approximation) → IsTied end Whatever (closed d) (label v ∷ []) (IsOpenTo d) (λ w. closed (next_approximation d))
@@ -345,20 +355,6 @@ module _ {end : End} (patterns : PatternsAreTied end) (d : Declared) (short : Ar
   word_tied v = one_token (closed d) v (IsOpenTo d)
       (λ w. approximation_row (closed d) v.lexeme refl v.matched (record { late = w.late; once = w.once }))
       (λ h. let w = open_to (closed d) v.lexeme refl v.matched h in record { late = w.late; once = w.once })
-
-  title_tied : (v : Token (terminal.Named place.Title)) → IsTied end Whatever (closed (next_approximation d)) (label v ∷ []) (IsShort (text_of v)) (λ w. closed (next_approximation d))
-  unfolding adds
-  title_tied v =
-      let e = closed (next_approximation d) in
-      one_token e v (IsShort (text_of v)) (λ w. title_row e v.lexeme (record { applications = refl; last = tt }) v.matched w) (λ h. short_title e v.lexeme h)
-
-  states_word_tied : (v : Token terminal.States) → IsTied end Whatever (closed (next_approximation d)) (label v ∷ []) (Unit {0}) (λ w. closed (next_approximation d))
-  unfolding adds
-  states_word_tied v = let e = closed (next_approximation d) in free_token e v (simple_row terminal.States e v.lexeme refl refl v.matched)
-
-  rules_word_tied : (names : List Text) (v : Token terminal.Rules) → IsTied end Whatever (closed (with_extra (next_approximation d) names)) (label v ∷ []) (Unit {0}) (λ w. closed (with_extra (next_approximation d) names))
-  unfolding adds
-  rules_word_tied names v = let e = closed (with_extra (next_approximation d) names) in free_token e v (simple_row terminal.Rules e v.lexeme refl refl v.matched)
 
   pub approximation_tied : (v : Value grammar.approximation)
       → IsTied end Whatever (closed d) (labelled grammar.approximation v)
@@ -369,11 +365,11 @@ module _ {end : End} (patterns : PatternsAreTied end) (d : Declared) (short : Ar
       let d1 = next_approximation d in
       by_witness
       (in_turn (word_tied v.0) (λ place.
-        in_turn (title_tied v.1.0) (λ title.
-          in_turn (states_word_tied v.1.1.0) (λ u.
+        in_turn (title_tied d1 v.1.0) (λ title.
+          in_turn (states_word_tied d1 v.1.1.0) (λ u.
             in_turn (states_tied v.1.1.1.0 d1 known) (λ new.
-              in_turn (rules_word_tied names v.1.1.1.1.0) (λ u2.
-                rules_tied end patterns v.1.1.1.1.1 (with_extra d1 names) (short_names d1 names (record { symbols = short.symbols; variables = short.variables; states = short.states }) new) few))))))
+              in_turn (rules_word_tied (with_extra d1 names) v.1.1.1.1.0) (λ u2.
+                rules_tied end patterns v.1.1.1.1.1 (with_extra d1 names) (record { symbols = short.symbols; variables = short.variables; states = new.short }) few))))))
       (λ w. (w.1.place, (w.1.short_title, (tt, (w.1.states, (tt, (w.0, record { from = w.1.entries.from; few = w.1.entries.few })))))))
       (λ w. (w.1.1.1.1.1.0, record { place = w.0; short_title = w.1.0; states = w.1.1.1.0; entries = record { from = w.1.1.1.1.1.1.from; few = w.1.1.1.1.1.1.few } }))
       (λ w. refl)

@@ -23,7 +23,8 @@ use Rattle.timbuk_reader.specs.Reading.{End}
 use Rattle.timbuk_reader.specs.SpecText.{without_symbols, IsEntryFrom}
 use Rattle.timbuk_reader.proofs.Labels.{Label, label, labelled}
 use Rattle.timbuk_reader.proofs.TieApproximationSteps.{Whatever, IsTied, no_tokens, one_token, free_token, no_token, in_turn, by_witness, from_state}
-use Rattle.timbuk_reader.proofs.TieApproximationVariables.{IsFew, own_with, own_after, both_after, fewer, occurrences_of_application}
+use Rattle.timbuk_reader.proofs.TieApproximationVariables.{IsFew, own_with, own_after, both_after, fewer}
+use Rattle.timbuk_reader.proofs.TieShapes.{shape_occurrences_app}
 use Rattle.timbuk_reader.proofs.TieApproximationRows.{amid, is_quiet, names_at, AreShort, IsLeaf, leaf_meaning, IsHead, symbol_meaning, open_row, no_open_row, comma_row, more_to_come, close_row, all_there, no_simple_row}
 use Rattle.timbuk_reader.proofs.TieApproximationTokens.{application, among, behind_head, entry_to, with_entries, argument_tied, head_tied, target_tied, arrow_tied}
 
@@ -335,7 +336,7 @@ pub record IsEntryHere (d : Declared) (r : ApproximationRule) (a : Arrow) (e : E
 variables_are : (whole at : Shape) (f : ℕ) (ss : List Shape) (bound : List ℕ) → bound ≡ firsts (shape_occurrences whole ++ shape_occurrences at)
     → firsts (shape_occurrences whole ++ (shape_occurrences at ++ shape_occurrences (shape.App f ss))) ≡ fold with_first (bound ++ []) (variables_in ss)
 variables_are whole at f ss bound e =
-    ap (λ vs. firsts (shape_occurrences whole ++ (shape_occurrences at ++ vs))) (occurrences_of_application f ss)
+    ap (λ vs. firsts (shape_occurrences whole ++ (shape_occurrences at ++ vs))) (shape_occurrences_app f ss)
     ∙ (ap firsts (sym (append_assoc (shape_occurrences whole) (shape_occurrences at) (variables_in ss)))
     ∙ (fold-append with_first [] (shape_occurrences whole ++ shape_occurrences at) (variables_in ss)
     ∙ ap (λ vs. fold with_first vs (variables_in ss)) (sym e ∙ sym (append-nil bound))))
@@ -417,9 +418,6 @@ pub record AreEntriesHere (d : Declared) (declared : List (ApproximationRule × 
   pub from : AllZip (IsEntryFrom (names_at d)) declared es
   pub few : length d.entries + length es ≤ 1024
 
-pub short_with : (d : Declared) (es : List Entry) → AreShort d → AreShort (with_entries d es)
-short_with d es h = record { symbols = h.symbols; variables = h.variables; states = h.states }
-
 pub with_none : (d : Declared) → d ≡ with_entries d []
 with_none d = λ i. record d { entries = sym (append-nil d.entries) i }
 
@@ -483,10 +481,10 @@ module _ (end : End) (r : ApproximationRule) (whole at : Shape) (bound : List �
       (λ v. none_told d v.0 v.1)
       (λ w. ap entries_at (with_none d))
   entries_tied (v ∷ vs) d short begun few =
-      entry_and_more v vs d short begun leaf refl (λ w. entries_tied vs (with_entries d (w.0 ∷ [])) (short_with d (w.0 ∷ []) short) begun (room_behind d (entry_of v) w.0 w.1))
+      entry_and_more v vs d short begun leaf refl (λ w. entries_tied vs (with_entries d (w.0 ∷ [])) short begun (room_behind d (entry_of v) w.0 w.1))
 
   -- at least one entry
   pub some_tied : (v : Value grammar.entry) (vs : List (Value grammar.entry)) (d : Declared) → AreShort d → IsBegun (names_at d) r whole at bound → (l : Last) → is_quiet l ≡ true
       → IsTied end Whatever (amid d (whole ∷ at ∷ []) bound [] [] l) (labelled (grammar.some grammar.entry) (v, vs)) (Entries d (v ∷ vs)) (λ z. entries_at (with_entries d z.0))
   some_tied v vs d short begun l quiet =
-      entry_and_more v vs d short begun l quiet (λ w. entries_tied vs (with_entries d (w.0 ∷ [])) (short_with d (w.0 ∷ []) short) begun (room_behind d (entry_of v) w.0 w.1))
+      entry_and_more v vs d short begun l quiet (λ w. entries_tied vs (with_entries d (w.0 ∷ [])) short begun (room_behind d (entry_of v) w.0 w.1))

@@ -32,7 +32,7 @@ module _ (d : Declared) (t : Tree place.EntryWhole) where
   fits short s h = record {
     shape = h.shape;
     nesting = omega (arith, h.nesting);
-    short_names = sides.tree_short place.EntryWhole t (names_at d) s (record { symbols = short.symbols; variables = short.variables; states = short.states }) h.shape;
+    short_names = sides.tree_short place.EntryWhole t (names_at d) s short h.shape;
     variables = few_taken place.EntryWhole (λ bound v. refl) (λ bound v. refl) [] (variables_in (names_at d) t) (subst IsFew (sym (same_variables s h.shape)) h.few);
     start = refl;
   }

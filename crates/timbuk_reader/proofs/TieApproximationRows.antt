@@ -25,7 +25,9 @@ use Rattle.timbuk_reader.specs.Rows.{row, or, when, wrong_arity, wrong_after, wr
 use Rattle.timbuk_reader.proofs.TieNamesRuns.{or-none, or_parts_none, when-false, when_none, HasNoRow, row-none, row_parts}
 use Rattle.timbuk_reader.proofs.TieNamesRows.{IsNew, is_plain, opens, is_expected, passed_plain, misnamed_plain, is_name}
 use Rattle.timbuk_reader.proofs.TieNamesTexts.{position_found, Contains-position, place-position}
-use Rattle.timbuk_reader.proofs.TieApproximationVariables.{IsFew, too_many, room, few_with, occurrences_of_variable, occurrences_of_state}
+use Rattle.timbuk_reader.proofs.TieSides as sides
+use Rattle.timbuk_reader.proofs.TieApproximationVariables.{IsFew, too_many, room, few_with}
+use Rattle.timbuk_reader.proofs.TieShapes.{shape_occurrences_var, shape_occurrences_state}
 
 -- ---- states
 
@@ -43,10 +45,8 @@ abbrev pub names_at : Declared → Names
 names_at d = record { symbols = d.symbols; variables = d.variables; states = d.initial.states }
 
 -- names that are declared have at most 255 bytes
-pub record AreShort (d : Declared) : Type 0 where
-  pub symbols : All IsShort (names_of d.symbols)
-  pub variables : All IsShort d.variables
-  pub states : All IsShort d.initial.states
+abbrev pub AreShort : Declared → Type 0
+AreShort d = sides.AreShort (names_at d)
 
 -- ---- the arity, and what may follow
 
@@ -213,7 +213,7 @@ module _ (d : Declared) (text : Text) (short : AreShort d) (few : IsFew (d.bound
   fine_by : (v q : Option ℕ) (s : Shape) → position (bytes_eq text) d.variables ≡ v → position (bytes_eq text) d.initial.states ≡ q → IsLeaf (leaf_by v q) (d.bound ++ d.own) s → (leaf_limits (leaf_by v q) text d ≡ None) × (is_unknown (leaf_by v q) ≡ false)
   fine_by (Some v) q s e f h =
       let is : shape.Var v ≡ s = same_Some _ _ h.shape in
-      let occurs : shape_occurrences s ≡ v ∷ [] = ap shape_occurrences (sym is) ∙ occurrences_of_variable v in
+      let occurs : shape_occurrences s ≡ v ∷ [] = ap shape_occurrences (sym is) ∙ shape_occurrences_var v in
       let now : IsFew (with_first (d.bound ++ d.own) v) = subst (λ vs. IsFew (fold with_first (d.bound ++ d.own) vs)) occurs h.few in
       (or-none _ _ (when-false _ _ (le-ltb _ _ (short_at d.variables text v short.variables e))) (or-none _ _ (when-false _ _ (room d.bound d.own v few now)) refl), refl)
   fine_by None (Some q) s e f h = (or-none _ _ (when-false _ _ (le-ltb _ _ (short_at d.initial.states text q short.states f))) refl, refl)
@@ -222,8 +222,8 @@ module _ (d : Declared) (text : Text) (short : AreShort d) (few : IsFew (d.bound
   only_by : (v q : Option ℕ) → leaf_limits (leaf_by v q) text d ≡ None → is_unknown (leaf_by v q) ≡ false → (s : Shape) × IsLeaf (leaf_by v q) (d.bound ++ d.own) s
   only_by (Some v) q h k =
       let free : too_many d.bound d.own v ≡ false = when_none _ _ (or_parts_none _ _ (or_parts_none _ _ h).1).0 in
-      (shape.Var v, record { shape = refl; few = subst (λ vs. IsFew (fold with_first (d.bound ++ d.own) vs)) (sym (occurrences_of_variable v)) (few_with d.bound d.own v few free) })
-  only_by None (Some q) h k = (shape.State q, record { shape = refl; few = subst (λ vs. IsFew (fold with_first (d.bound ++ d.own) vs)) (sym (occurrences_of_state q)) few })
+      (shape.Var v, record { shape = refl; few = subst (λ vs. IsFew (fold with_first (d.bound ++ d.own) vs)) (sym (shape_occurrences_var v)) (few_with d.bound d.own v few free) })
+  only_by None (Some q) h k = (shape.State q, record { shape = refl; few = subst (λ vs. IsFew (fold with_first (d.bound ++ d.own) vs)) (sym (shape_occurrences_state q)) few })
   only_by None None h k = cc
 
   pub leaf_fine : (s : Shape) → IsLeaf (leaf_meaning d text) (d.bound ++ d.own) s → (leaf_limits (leaf_meaning d text) text d ≡ None) × (is_unknown (leaf_meaning d text) ≡ false)

@@ -20,14 +20,13 @@ use Rattle.timbuk_reader.specs.Reading.{End}
 use Rattle.timbuk_reader.proofs.Labels.{Label, label}
 use Rattle.timbuk_reader.proofs.TieNamesTexts.{position_found}
 use Rattle.timbuk_reader.proofs.TieApproximationSteps.{IsTied, one_token, free_token, by_witness}
-use Rattle.timbuk_reader.proofs.TieApproximationVariables.{IsFew, own_after, same_with, occurrences_of_variable, occurrences_of_state}
+use Rattle.timbuk_reader.proofs.TieApproximationVariables.{IsFew, own_after}
+use Rattle.timbuk_reader.proofs.TieShapes.{shape_occurrences_var, shape_occurrences_state}
+use Rattle.timbuk_reader.proofs.TieVariables.{with_variable_is}
 use Rattle.timbuk_reader.proofs.TieApproximationRows.{amid, is_quiet, AreShort, is_simple, simple_row, IsLeaf, leaf_meaning, at_row, at_leaf, argument_row, argument_leaf, IsHead, symbol_meaning, head_row, head_symbol, target_row, target_state}
 
 abbrev leaf_by : Option ℕ → Option ℕ → Meaning
 leaf_by v q = or_else (as_variable v) (as_state q)
-
-short_amid : (d : Declared) (shapes : List Shape) (bound own : List ℕ) (applications : List Application) (l : Last) → AreShort d → AreShort (amid d shapes bound own applications l)
-short_amid d shapes bound own applications l h = record { symbols = h.symbols; variables = h.variables; states = h.states }
 
 -- ---- the states behind the tokens
 
@@ -65,11 +64,11 @@ module _ (d : Declared) (shapes : List Shape) (bound : List ℕ) (l : Last) wher
   at_told : (v q : Option ℕ) (s : Shape) → leaf_shape (leaf_by v q) ≡ Some s → named place.EntryAt (leaf_by v q) (amid d shapes bound [] [] l) ≡ behind_at d shapes bound s
   at_told (Some v) q s h =
       let is : shape.Var v ≡ s = same_Some _ _ h in
-      let variables : with_variable bound v ≡ fold with_first bound (shape_occurrences s) = same_with bound v ∙ ap (fold with_first bound) (sym (ap shape_occurrences (sym is) ∙ occurrences_of_variable v)) in
+      let variables : with_variable bound v ≡ fold with_first bound (shape_occurrences s) = with_variable_is bound v ∙ ap (fold with_first bound) (sym (ap shape_occurrences (sym is) ∙ shape_occurrences_var v)) in
       λ i. amid d (shapes ++ is i ∷ []) (variables i) [] [] leaf
   at_told None (Some q) s h =
       let is : shape.State q ≡ s = same_Some _ _ h in
-      let variables : bound ≡ fold with_first bound (shape_occurrences s) = ap (fold with_first bound) (sym (ap shape_occurrences (sym is) ∙ occurrences_of_state q)) in
+      let variables : bound ≡ fold with_first bound (shape_occurrences s) = ap (fold with_first bound) (sym (ap shape_occurrences (sym is) ∙ shape_occurrences_state q)) in
       λ i. amid d (shapes ++ is i ∷ []) (variables i) [] [] leaf
   at_told None None s h = cc
 
@@ -80,12 +79,11 @@ module _ (d : Declared) (shapes : List Shape) (bound : List ℕ) (l : Last) wher
   pub at_tied : {end : End} {K : List Label → Type 0} → AreShort d → is_quiet l ≡ true → IsFew bound → (v : Token (terminal.Named place.EntryAt))
       → IsTied end K (amid d shapes bound [] [] l) (label v ∷ []) ((s : Shape) × IsLeaf (leaf_meaning d (text_of v)) bound s) (λ w. behind_at d shapes bound w.0)
   at_tied short quiet few v =
-      let shorts = short_amid d shapes bound [] [] l short in
       let all : IsFew (bound ++ []) = subst IsFew (sym (append-nil bound)) few in
       by_witness
       (one_token (amid d shapes bound [] [] l) v ((s : Shape) × IsLeaf (leaf_meaning d (text_of v)) (bound ++ []) s)
-        (λ w. at_row (amid d shapes bound [] [] l) v.lexeme shorts all quiet v.matched w.0 w.1)
-        (λ h. at_leaf (amid d shapes bound [] [] l) v.lexeme shorts all quiet h))
+        (λ w. at_row (amid d shapes bound [] [] l) v.lexeme short all quiet v.matched w.0 w.1)
+        (λ h. at_leaf (amid d shapes bound [] [] l) v.lexeme short all quiet h))
       (λ w. (w.0, subst (λ vs. IsLeaf (leaf_meaning d (text_of v)) vs w.0) (sym (append-nil bound)) w.1))
       (λ w. (w.0, subst (λ vs. IsLeaf (leaf_meaning d (text_of v)) vs w.0) (append-nil bound) w.1))
       (λ w. at_adds (text_of v) w.0 w.1.shape)
@@ -105,11 +103,11 @@ module _ (d : Declared) (shapes : List Shape) (bound : List ℕ) (f n : ℕ) (ar
   argument_told : (v q : Option ℕ) (s : Shape) → leaf_shape (leaf_by v q) ≡ Some s → named place.EntryArgument (leaf_by v q) before_argument ≡ behind_argument d shapes bound f n args own s
   argument_told (Some v) q s h =
       let is : shape.Var v ≡ s = same_Some _ _ h in
-      let variables : (if has bound v then own else with_variable own v) ≡ own_after bound own (shape_occurrences s) = ap (own_after bound own) (sym (ap shape_occurrences (sym is) ∙ occurrences_of_variable v)) in
+      let variables : (if has bound v then own else with_variable own v) ≡ own_after bound own (shape_occurrences s) = ap (own_after bound own) (sym (ap shape_occurrences (sym is) ∙ shape_occurrences_var v)) in
       own_told v (has bound v) ∙ (λ i. among d shapes bound f n (args ++ is i ∷ []) (variables i) leaf)
   argument_told None (Some q) s h =
       let is : shape.State q ≡ s = same_Some _ _ h in
-      let variables : own ≡ own_after bound own (shape_occurrences s) = ap (own_after bound own) (sym (ap shape_occurrences (sym is) ∙ occurrences_of_state q)) in
+      let variables : own ≡ own_after bound own (shape_occurrences s) = ap (own_after bound own) (sym (ap shape_occurrences (sym is) ∙ shape_occurrences_state q)) in
       λ i. among d shapes bound f n (args ++ is i ∷ []) (variables i) leaf
   argument_told None None s h = cc
 
@@ -120,11 +118,10 @@ module _ (d : Declared) (shapes : List Shape) (bound : List ℕ) (f n : ℕ) (ar
   pub argument_tied : {end : End} {K : List Label → Type 0} → AreShort d → is_quiet l ≡ true → IsFew (bound ++ own) → (v : Token (terminal.Named place.EntryArgument))
       → IsTied end K (among d shapes bound f n args own l) (label v ∷ []) ((s : Shape) × IsLeaf (leaf_meaning d (text_of v)) (bound ++ own) s) (λ w. behind_argument d shapes bound f n args own w.0)
   argument_tied short quiet few v =
-      let shorts = short_amid d shapes bound own (application f n args ∷ []) l short in
       by_witness
       (one_token before_argument v ((s : Shape) × IsLeaf (leaf_meaning d (text_of v)) (bound ++ own) s)
-        (λ w. argument_row before_argument v.lexeme shorts few quiet v.matched w.0 w.1)
-        (λ h. argument_leaf before_argument v.lexeme shorts few quiet h))
+        (λ w. argument_row before_argument v.lexeme short few quiet v.matched w.0 w.1)
+        (λ h. argument_leaf before_argument v.lexeme short few quiet h))
       (λ w. w)
       (λ w. w)
       (λ w. argument_adds (text_of v) w.0 w.1.shape)
@@ -144,11 +141,10 @@ module _ (d : Declared) (shapes : List Shape) (bound : List ℕ) (l : Last) wher
   pub head_tied : {end : End} {K : List Label → Type 0} → AreShort d → is_quiet l ≡ true → (v : Token (terminal.Named place.EntryHead))
       → IsTied end K (amid d shapes bound [] [] l) (label v ∷ []) ((f : ℕ) × (n : ℕ) × IsHead (symbol_meaning d (text_of v)) (length d.entries) f n) (λ w. behind_head d shapes bound w.0 w.1)
   head_tied short quiet v =
-      let shorts = short_amid d shapes bound [] [] l short in
       by_witness
       (one_token (amid d shapes bound [] [] l) v ((f : ℕ) × (n : ℕ) × IsHead (symbol_meaning d (text_of v)) (length d.entries) f n)
-        (λ w. head_row (amid d shapes bound [] [] l) v.lexeme shorts quiet refl v.matched w.0 w.1 w.2)
-        (λ h. head_symbol (amid d shapes bound [] [] l) v.lexeme shorts quiet refl h))
+        (λ w. head_row (amid d shapes bound [] [] l) v.lexeme short quiet refl v.matched w.0 w.1 w.2)
+        (λ h. head_symbol (amid d shapes bound [] [] l) v.lexeme short quiet refl h))
       (λ w. w)
       (λ w. w)
       (λ w. head_adds (text_of v) w.0 w.1 w.2.symbol)
@@ -168,11 +164,10 @@ module _ (d : Declared) (whole at node : Shape) (bound own : List ℕ) (l : Last
   pub target_tied : {end : End} {K : List Label → Type 0} → AreShort d → is_quiet l ≡ true → (v : Token (terminal.Named place.EntryTarget))
       → IsTied end K (amid d (whole ∷ at ∷ node ∷ []) bound own [] l) (label v ∷ []) (Contains d.initial.states (text_of v)) (λ w. amid (with_entries d (entry_to d whole at node (text_of v) ∷ [])) (whole ∷ at ∷ []) bound [] [] leaf)
   target_tied short quiet v =
-      let shorts = short_amid d (whole ∷ at ∷ node ∷ []) bound own [] l short in
       by_witness
       (one_token before_target v (Contains d.initial.states (text_of v))
-        (λ w. target_row before_target v.lexeme shorts quiet v.matched w)
-        (λ h. target_state before_target v.lexeme shorts quiet h))
+        (λ w. target_row before_target v.lexeme short quiet v.matched w)
+        (λ h. target_state before_target v.lexeme short quiet h))
       (λ w. w)
       (λ w. w)
       (λ w. target_adds (text_of v) w)

@@ -8,43 +8,8 @@ use Rattle.std.proofs.lemmas.List.{append-nil}
 use Rattle.std.proofs.lemmas.List.Folds.{list_any-append}
 use Rattle.std.proofs.lemmas.List.Sums.{fold-append}
 use Rattle.ranked_terms.specs.Terms.{with_variable as with_first, firsts, joined}
-use Rattle.ranked_terms.specs.declared.term.Shape.{Shape}
-use Rattle.ranked_terms.specs.declared.term.Shape.TheOpen as layer
-use Rattle.ranked_terms.specs.declared.term.Shape.TheVariants as shape
-use Rattle.ranked_terms.specs.declared.term.Shape.TheFolds.{fold-Shape, fold-roll-Shape}
-use Rattle.ta_core.specs.SpecRules.{shape_occurrences, shape_occurrences_step}
 use Rattle.timbuk_reader.specs.Declarations.{has, with_variable}
-
--- ---- the variables of a shape
-
-pub occurrences_of_variable : (v : ℕ) → shape_occurrences (shape.Var v) ≡ v ∷ []
-occurrences_of_variable v = ap shape_occurrences (sym (shape.rolls-Var v)) ∙ fold-roll-Shape (List ℕ) shape_occurrences_step (layer.Var v)
-
-pub occurrences_of_state : (q : ℕ) → shape_occurrences (shape.State q) ≡ []
-occurrences_of_state q = ap shape_occurrences (sym (shape.rolls-State q)) ∙ fold-roll-Shape (List ℕ) shape_occurrences_step (layer.State q)
-
-pub occurrences_of_application : (f : ℕ) (ss : List Shape) → shape_occurrences (shape.App f ss) ≡ joined (map shape_occurrences ss)
-occurrences_of_application f ss = ap shape_occurrences (sym (shape.rolls-App f ss)) ∙ fold-roll-Shape (List ℕ) shape_occurrences_step (layer.App f ss)
-
--- ---- one variable more
-
-below_by : (b : Bool) (n l : ℕ) → nat_lt (cond (not b) (1 + n) 0) (suc l) ≡ (b || nat_lt n l)
-below_by true n l = grind (arith, nat_tests)
-below_by false n l = grind (arith, nat_tests)
-
-some_below : (test : ℕ → Bool) (vs : List ℕ) → nat_lt (position_or_len test vs) (length vs) ≡ list_any test vs
-some_below test [] = refl
-some_below test (v ∷ vs) = below_by (test v) (position_or_len test vs) (length vs) ∙ ap (λ b. test v || b) (some_below test vs)
-
-some_by : (b : Bool) (n : ℕ) → is_some (cond b (Some n) None) ≡ b
-some_by true n = refl
-some_by false n = refl
-
-pub has_any : (vs : List ℕ) (v : ℕ) → has vs v ≡ list_any (λ w. v == w) vs
-has_any vs v = some_by (nat_lt (position_or_len (λ w. v == w) vs) (length vs)) (position_or_len (λ w. v == w) vs) ∙ some_below (λ w. v == w) vs
-
-pub same_with : (vs : List ℕ) (v : ℕ) → with_variable vs v ≡ with_first vs v
-same_with vs v = ap (λ b. if b then vs else (vs ++ v ∷ [])) (has_any vs v)
+use Rattle.timbuk_reader.proofs.TieVariables.{has-any}
 
 -- ---- an entry's own variables
 
@@ -56,7 +21,7 @@ abbrev pub own_after : List ℕ → List ℕ → List ℕ → List ℕ
 own_after bound own vs = fold (own_with bound) own vs
 
 has_both : (bound own : List ℕ) (v : ℕ) → list_any (λ w. v == w) (bound ++ own) ≡ (has bound v || has own v)
-has_both bound own v = list_any-append (λ w. v == w) bound own ∙ (λ i. sym (has_any bound v) i || sym (has_any own v) i)
+has_both bound own v = list_any-append (λ w. v == w) bound own ∙ (λ i. sym (has-any bound v) i || sym (has-any own v) i)
 
 both_with : (bound own : List ℕ) (v : ℕ) → bound ++ own_with bound own v ≡ with_first (bound ++ own) v
 both_with bound own v = by (has bound v) (has own v) ∙ ap (λ b. if b then bound ++ own else ((bound ++ own) ++ v ∷ [])) (sym (has_both bound own v))

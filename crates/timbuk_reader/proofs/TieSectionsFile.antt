@@ -27,7 +27,7 @@ use Rattle.timbuk_reader.proofs.TieApproximation.{closed}
 use Rattle.timbuk_reader.proofs.TieApproximationPatterns.{patterns_are_tied}
 use Rattle.timbuk_reader.proofs.TieSectionsParts.{parts_of}
 use Rattle.timbuk_reader.proofs.TieSectionsSteps.{ok_below, leads_tied}
-use Rattle.timbuk_reader.proofs.TieSectionsStates.{closed_at, spelled_at}
+use Rattle.timbuk_reader.proofs.TieSectionsStates.{some_there, there_are_some, closed_at, spelled_at}
 use Rattle.timbuk_reader.proofs.TieSections.{labelled_sections, sections_fine, sections_only}
 use Rattle.timbuk_reader.proofs.TieSectionsSpells.{IsSpelledBy, spelled_by, IsReadAs, spells}
 
@@ -90,13 +90,6 @@ module _ (end : End) (v : Value grammar.file) where
 
 -- ---- a text that spells a specification
 
-some_there : (n : ℕ) → 1 ≤ n → (n == 0) ≡ false
-some_there n h = false_from_ne_true (n == 0) (λ e. omega (arith, eqb-true n 0 e, h))
-
-there_are_some : (l : List AutomatonDeclaration) → (length l == 0) ≡ false → 1 ≤ length l
-there_are_some [] h = cc
-there_are_some (a ∷ l) h = omega arith
-
 -- what is read of it, without a fault
 pub record IsReadTo (end : End) (v : Value grammar.file) (spec : Spec) : Type 0 where
   pub declared : Declared
@@ -122,7 +115,7 @@ file_fine end v spec h =
         ap (reads end nothing) (labels_are end v)
         ∙ ((front_tied end v).fine (k.symbols, k.variables) (labelled_sections v.1.1 ++ []) tt
         ∙ (sections
-        ∙ none_at_end end d (some_there (length (automata_in (map section_of v.1.1))) k.some))) in
+        ∙ none_at_end end d (some_there (automata_in (map section_of v.1.1)) k.some))) in
     let b = ok_below (judge end nothing (labelled grammar.file v)) d all in
     let same : forgets b.0 ≡ d = same_declared b.0 d (ap calm (sym b.1) ∙ all) in
     record { declared = b.0; judged = b.1; spec_of = spec_of_remembered b.0 spec (subst (λ s. IsSpecOf s spec) (sym same) k.spec_of) }

@@ -106,6 +106,15 @@ module _ (symbols : List Symbol) (variables : List Text) where
       let lengths : length (extra_of p.approximations) + length names ≡ length (extra_of (p.approximations ++ (names, rules) ∷ [])) = sym (length-append (extra_of p.approximations) names) ∙ ap length extra in
       λ i. record (at p rs qs (es ++ more)) { approximations = count i; initial = record (initial_of symbols p.automata) { states = states i }; extra = lengths i }
 
+-- ---- the number of automata
+
+pub some_there : (l : List AutomatonDeclaration) → 1 ≤ length l → (length l == 0) ≡ false
+some_there l h = false_from_ne_true (length l == 0) (λ e. omega (arith, eqb-true (length l) 0 e, h))
+
+pub there_are_some : (l : List AutomatonDeclaration) → (length l == 0) ≡ false → 1 ≤ length l
+there_are_some [] h = cc
+there_are_some (a ∷ l) h = omega arith
+
 -- ---- what sections spell
 
 module _ (symbols : List Symbol) (variables : List Text) where
@@ -191,13 +200,6 @@ module _ (end : End) (patterns : PatternsAreTied end) (symbols : List Symbol) (v
 
   short_at : (p : Parts) (rs qs : Sides) (es : List Entry) → All IsShort (initial_states p.automata ++ extra_of p.approximations) → AreShort (state symbols variables p rs qs es)
   short_at p rs qs es h = record { symbols = short_symbols; variables = short_variables; states = h }
-
-  some_there : (l : List AutomatonDeclaration) → 1 ≤ length l → (length l == 0) ≡ false
-  some_there l h = false_from_ne_true (length l == 0) (λ e. omega (arith, eqb-true (length l) 0 e, h))
-
-  there_are_some : (l : List AutomatonDeclaration) → (length l == 0) ≡ false → 1 ≤ length l
-  there_are_some [] h = cc
-  there_are_some (a ∷ l) h = omega arith
 
   fine_approximation : (v : Value grammar.approximation) (p : Parts) (rs : List RewriteRule) (qs : List RewriteEquation) (es : List Entry) → IsShort (text_of v.1.0)
       → AreSpelled symbols variables (with_section (section_of (inr (inr (inr v)))) p) rs qs es → SectionFine (inr (inr (inr v))) p rs qs es

@@ -32,9 +32,9 @@ use Rattle.timbuk_reader.proofs.TieNamesLeads.{Leads, leads-fine, leads-only}
 use Rattle.timbuk_reader.proofs.TieAutomatonStates.{put}
 use Rattle.timbuk_reader.proofs.TieAutomata.{IsAllowedAutomaton, started_by, next_automaton, last_of, last_of-resting, automaton_leads}
 use Rattle.timbuk_reader.proofs.TieApproximationSteps.{reads, Whatever, IsTied, one_token, free_token, in_turn}
-use Rattle.timbuk_reader.proofs.TieApproximation.{closed}
+use Rattle.timbuk_reader.proofs.TieApproximation.{closed, title_tied, rules_word_tied}
 
--- ---- words and titles
+-- ---- the words that begin sections
 
 module _ {end : End} (d : Declared) where
   system_word_tied : (v : Token terminal.Trs) → IsTied end Whatever (closed d) (label v ∷ []) (d.systems < 1) (λ w. closed (record d { systems = d.systems + 1 }))
@@ -48,14 +48,6 @@ module _ {end : End} (d : Declared) where
   equations_word_tied v = one_token (closed d) v (d.equation_sections < 1)
       (λ w. row_at_rest terminal.Equations (closed d) v.lexeme (record { applications = refl; last = tt }) refl refl v.matched (when-false _ _ (lt-leb _ _ w)) (misnamed_plain terminal.Equations v.lexeme.text (closed d) refl))
       (λ h. leb-false _ _ (when_none _ _ (row_parts terminal.Equations (closed d) v.lexeme h).limits))
-
-  title_tied : (v : Token (terminal.Named place.Title)) → IsTied end Whatever (closed d) (label v ∷ []) (IsShort (text_of v)) (λ w. closed d)
-  unfolding adds
-  title_tied v = one_token (closed d) v (IsShort (text_of v)) (λ w. title_row (closed d) v.lexeme (record { applications = refl; last = tt }) v.matched w) (λ h. short_title (closed d) v.lexeme h)
-
-  rules_word_tied : (v : Token terminal.Rules) → IsTied end Whatever (closed d) (label v ∷ []) (Unit {0}) (λ w. closed d)
-  unfolding adds
-  rules_word_tied v = free_token (closed d) v (plain_row terminal.Rules (closed d) v.lexeme (record { applications = refl; last = tt }) refl refl v.matched)
 
 -- ---- a rewriting system
 
