@@ -23,14 +23,14 @@ use Rattle.timbuk_reader.specs.Naming.{IsShort, AreNewNames, shape_in, nesting_i
 use Rattle.timbuk_reader.specs.Reading.{End}
 use Rattle.timbuk_reader.specs.SpecText.{IsEntryFrom, entries_of}
 use Rattle.timbuk_reader.proofs.Labels.{Label, label, labelled, labelled_pattern}
-use Rattle.timbuk_reader.proofs.TieLast.{NotOpening}
+use Rattle.timbuk_reader.proofs.TieLast.{IsQuiet, NotOpening}
 use Rattle.timbuk_reader.proofs.TieApproximationSteps.{Whatever, IsTied, no_tokens, one_token, free_token, in_turn, in_turn_at, by_witness}
 use Rattle.timbuk_reader.proofs.TieApproximationVariables.{IsFew, fewer}
 use Rattle.timbuk_reader.specs.Rows.{row, is_in, when, passed, misnamed, unexpected_after, expected}
 use Rattle.timbuk_reader.proofs.TieNamesRuns.{or-none, or_parts_none, when-false, when_none, row-none, row_parts}
 use Rattle.timbuk_reader.proofs.TieNamesRows.{IsNew, title_row, short_title, is_expected, misnamed_plain}
 use Rattle.timbuk_reader.proofs.TieNamesTexts.{IsNew-middle, AreNewNames-push}
-use Rattle.timbuk_reader.proofs.TieApproximationRows.{amid, is_quiet, names_at, AreShort, IsLeaf, leaf_meaning, arity_right, name_arity, simple_row}
+use Rattle.timbuk_reader.proofs.TieApproximationRows.{amid, names_at, AreShort, IsLeaf, leaf_meaning, arity_right, name_arity, simple_row}
 use Rattle.timbuk_reader.proofs.TieApproximationTokens.{with_entries, behind_at, at_tied, open_bracket_tied, arrow_tied, close_bracket_tied, close_entries_tied}
 use Rattle.timbuk_reader.proofs.TieApproximationEntries.{IsBegun, AreEntriesHere, with_rule, with_none, with_more, some_tied}
 
@@ -132,18 +132,18 @@ module _ (end : End) (patterns : PatternsAreTied end) where
       let r = approximation_rule_of v in
       let some = v.1.1.1.1.1.1.1.0 in
       by_witness
-      (in_turn (open_bracket_tied d [] [] [] [] any refl v.0) (λ u0.
+      (in_turn (open_bracket_tied d [] [] [] [] any tt v.0) (λ u0.
         in_turn_at {J = NotOpening} (λ rest k. apart terminal.Arrow terminal.OpenParen v.1.1.0.lexeme refl v.1.1.0.matched) (patterns d short v.1.0) (λ w.
           let bound = firsts (shape_occurrences w.0) in
-          in_turn (arrow_tied d (w.0 ∷ []) bound [] [] any refl v.1.1.0) (λ u1.
-            in_turn (at_tied d (w.0 ∷ []) bound any short refl w.1.few v.1.1.1.0) (λ z.
+          in_turn (arrow_tied d (w.0 ∷ []) bound [] [] any tt v.1.1.0) (λ u1.
+            in_turn (at_tied d (w.0 ∷ []) bound any short tt w.1.few v.1.1.1.0) (λ z.
               let all = fold with_first bound (shape_occurrences z.0) in
               let shapes = w.0 ∷ z.0 ∷ [] in
-              in_turn (close_bracket_tied d shapes all [] [] leaf refl v.1.1.1.1.0) (λ u2.
-                in_turn (arrow_tied d shapes all [] [] any refl v.1.1.1.1.1.0) (λ u3.
-                  in_turn (open_bracket_tied d shapes all [] [] any refl v.1.1.1.1.1.1.0) (λ u4.
-                    in_turn (some_tied end r w.0 z.0 all some.0 some.1 d short (begun_by d r (entry_of some.0) (map entry_of some.1) w.0 z.0 w.1 z.1) any refl) (λ es.
-                      close_entries_tied (with_entries d es.0) shapes all [] [] leaf refl v.1.1.1.1.1.1.1.1)))))))))
+              in_turn (close_bracket_tied d shapes all [] [] leaf tt v.1.1.1.1.0) (λ u2.
+                in_turn (arrow_tied d shapes all [] [] any tt v.1.1.1.1.1.0) (λ u3.
+                  in_turn (open_bracket_tied d shapes all [] [] any tt v.1.1.1.1.1.1.0) (λ u4.
+                    in_turn (some_tied end r w.0 z.0 all some.0 some.1 d short (begun_by d r (entry_of some.0) (map entry_of some.1) w.0 z.0 w.1 z.1) any tt) (λ es.
+                      close_entries_tied (with_entries d es.0) shapes all [] [] leaf tt v.1.1.1.1.1.1.1.1)))))))))
       (rule_parted d r (entry_of some.0) (map entry_of some.1))
       (rule_joint d r (entry_of some.0) (map entry_of some.1))
       (λ es. refl)
@@ -226,7 +226,7 @@ taken d = names_of d.symbols ++ d.variables
 abbrev IsNewState : Declared → Text → Type 0
 IsNewState d text = IsNew (taken d ++ d.initial.states) (length d.initial.states) 16384 text
 
-module _ (d : Declared) (x : Lexeme) (quiet : is_quiet d.last ≡ true) where
+module _ (d : Declared) (x : Lexeme) (quiet : IsQuiet d.last) where
   state_row : matches (terminal.Named place.ApproximationState) x ≡ true → IsNewState d x.text → row (Some (terminal.Named place.ApproximationState)) d x ≡ None
   unfolding passed misnamed meaning
   state_row e h =
@@ -255,8 +255,8 @@ module _ {end : End} where
   zero_tied d None = no_tokens (closed d)
   zero_tied d (Some v) =
       by_witness
-      (in_turn (free_token (closed d) v.0 (simple_row terminal.Colon (closed d) v.0.lexeme refl refl v.0.matched)) (λ u.
-        free_token (closed d) v.1 (simple_row terminal.Zero (closed d) v.1.lexeme refl refl v.1.matched)))
+      (in_turn (free_token (closed d) v.0 (simple_row terminal.Colon (closed d) v.0.lexeme tt refl v.0.matched)) (λ u.
+        free_token (closed d) v.1 (simple_row terminal.Zero (closed d) v.1.lexeme tt refl v.1.matched)))
       (λ u. (tt, tt))
       (λ w. tt)
       (λ u. refl)
@@ -266,7 +266,7 @@ module _ {end : End} where
   unfolding adds
   state_tied d v =
       by_witness
-      (in_turn (one_token (closed d) v.0 (IsNewState d (text_of v.0)) (λ w. state_row (closed d) v.0.lexeme refl v.0.matched w) (λ h. new_state (closed d) v.0.lexeme refl h)) (λ w.
+      (in_turn (one_token (closed d) v.0 (IsNewState d (text_of v.0)) (λ w. state_row (closed d) v.0.lexeme tt v.0.matched w) (λ h. new_state (closed d) v.0.lexeme tt h)) (λ w.
         zero_tied (with_extra d (text_of v.0 ∷ [])) v.1))
       (λ w. (w, tt))
       (λ w. w.0)
@@ -295,7 +295,7 @@ pub record IsOpenTo (d : Declared) : Type 0 where
   pub late : (d.automata == 0) ≡ false
   pub once : d.approximations < 1
 
-module _ (d : Declared) (x : Lexeme) (quiet : is_quiet d.last ≡ true) where
+module _ (d : Declared) (x : Lexeme) (quiet : IsQuiet d.last) where
   approximation_row : matches terminal.Approximation x ≡ true → IsOpenTo d → row (Some terminal.Approximation) d x ≡ None
   unfolding passed expected
   approximation_row e h =
@@ -343,18 +343,18 @@ module _ {end : End} (d : Declared) where
 
   pub states_word_tied : (v : Token terminal.States) → IsTied end Whatever (closed d) (label v ∷ []) (Unit {0}) (λ w. closed d)
   unfolding adds
-  states_word_tied v = free_token (closed d) v (simple_row terminal.States (closed d) v.lexeme refl refl v.matched)
+  states_word_tied v = free_token (closed d) v (simple_row terminal.States (closed d) v.lexeme tt refl v.matched)
 
   pub rules_word_tied : (v : Token terminal.Rules) → IsTied end Whatever (closed d) (label v ∷ []) (Unit {0}) (λ w. closed d)
   unfolding adds
-  rules_word_tied v = free_token (closed d) v (simple_row terminal.Rules (closed d) v.lexeme refl refl v.matched)
+  rules_word_tied v = free_token (closed d) v (simple_row terminal.Rules (closed d) v.lexeme tt refl v.matched)
 
 module _ {end : End} (patterns : PatternsAreTied end) (d : Declared) (short : AreShort d) (known : AreNewNames (taken d) 16384 d.initial.states) (few : length d.entries ≤ 1024) where
   word_tied : (v : Token terminal.Approximation) → IsTied end Whatever (closed d) (label v ∷ []) (IsOpenTo d) (λ w. closed (next_approximation d))
   unfolding adds
   word_tied v = one_token (closed d) v (IsOpenTo d)
-      (λ w. approximation_row (closed d) v.lexeme refl v.matched (record { late = w.late; once = w.once }))
-      (λ h. let w = open_to (closed d) v.lexeme refl v.matched h in record { late = w.late; once = w.once })
+      (λ w. approximation_row (closed d) v.lexeme tt v.matched (record { late = w.late; once = w.once }))
+      (λ h. let w = open_to (closed d) v.lexeme tt v.matched h in record { late = w.late; once = w.once })
 
   pub approximation_tied : (v : Value grammar.approximation)
       → IsTied end Whatever (closed d) (labelled grammar.approximation v)

@@ -22,10 +22,11 @@ use Rattle.timbuk_reader.specs.Naming.{Names, stands_for, leaf_shape, node_shape
 use Rattle.timbuk_reader.specs.Reading.{End}
 use Rattle.timbuk_reader.specs.SpecText.{without_symbols, IsEntryFrom}
 use Rattle.timbuk_reader.proofs.Labels.{Label, label, labelled}
+use Rattle.timbuk_reader.proofs.TieLast.{IsQuiet}
 use Rattle.timbuk_reader.proofs.TieApproximationSteps.{Whatever, IsTied, no_tokens, one_token, free_token, no_token, in_turn, by_witness, from_state}
 use Rattle.timbuk_reader.proofs.TieApproximationVariables.{IsFew, own_with, own_after, both_after, fewer}
 use Rattle.timbuk_reader.proofs.TieShapes.{shape_occurrences_app}
-use Rattle.timbuk_reader.proofs.TieApproximationRows.{amid, is_quiet, names_at, AreShort, IsLeaf, leaf_meaning, IsHead, symbol_meaning, open_row, no_open_row, comma_row, more_to_come, close_row, all_there, no_simple_row}
+use Rattle.timbuk_reader.proofs.TieApproximationRows.{amid, names_at, AreShort, IsLeaf, leaf_meaning, IsHead, symbol_meaning, open_row, no_open_row, comma_row, more_to_come, close_row, all_there, no_simple_row}
 use Rattle.timbuk_reader.proofs.TieApproximationTokens.{application, among, behind_head, entry_to, with_entries, argument_tied, head_tied, target_tied, arrow_tied}
 
 -- ---- lists of shapes
@@ -85,13 +86,13 @@ module _ (end : End) (d : Declared) (short : AreShort d) (shapes : List Shape) (
   unfolding adds
   comma_tied v args own =
       let s = among d shapes bound f n args own leaf in
-      one_token s v (length args < n) (λ w. comma_row s v.lexeme (application f n args) [] refl refl v.matched w) (λ h. more_to_come s v.lexeme (application f n args) [] refl refl v.matched h)
+      one_token s v (length args < n) (λ w. comma_row s v.lexeme (application f n args) [] refl tt v.matched w) (λ h. more_to_come s v.lexeme (application f n args) [] refl tt v.matched h)
 
   close_tied : (v : Token terminal.CloseParen) (args : List Shape) (own : List ℕ) → IsTied end Whatever (among d shapes bound f n args own leaf) (label v ∷ []) (n ≤ length args) (λ w. amid d (shapes ++ shape.App f args ∷ []) bound own [] any)
   unfolding adds
   close_tied v args own =
       let s = among d shapes bound f n args own leaf in
-      one_token s v (n ≤ length args) (λ w. close_row s v.lexeme (application f n args) [] refl refl v.matched w) (λ h. all_there s v.lexeme (application f n args) [] refl refl v.matched h)
+      one_token s v (n ≤ length args) (λ w. close_row s v.lexeme (application f n args) [] refl tt v.matched w) (λ h. all_there s v.lexeme (application f n args) [] refl tt v.matched h)
 
   -- the arguments that follow those, as many as still fit
   record AreMore (args : List Shape) (own : List ℕ) (texts : List Text) (ss : List Shape) : Type 0 where
@@ -166,7 +167,7 @@ module _ (end : End) (d : Declared) (short : AreShort d) (shapes : List Shape) (
   more_tied (m ∷ more) args own le few =
       by_witness
       (in_turn (comma_tied m.0 args own) (λ lt.
-        in_turn (argument_tied d shapes bound f n args own any short refl few m.1) (λ w.
+        in_turn (argument_tied d shapes bound f n args own any short tt few m.1) (λ w.
           more_tied more (args ++ w.0 ∷ []) (own_after bound own (shape_occurrences w.0)) (omega (arith, lt, length-append args (w.0 ∷ []))) (few_behind args own (text_of m.1) more w.0 w.1))))
       (parted args own (text_of m.1) more)
       (joint args own (text_of m.1) more)
@@ -226,7 +227,7 @@ module _ (end : End) (d : Declared) (short : AreShort d) (shapes : List Shape) (
       let none_yet : IsFew (bound ++ []) = subst IsFew (sym (append-nil bound)) few in
       by_witness
       (in_turn (open_tied v.0) (λ u.
-        in_turn (argument_tied d shapes bound f n [] [] any short refl none_yet v.1.0) (λ w.
+        in_turn (argument_tied d shapes bound f n [] [] any short tt none_yet v.1.0) (λ w.
           in_turn (more_tied more (w.0 ∷ []) (own_after bound [] (shape_occurrences w.0)) some (few_behind [] [] text more w.0 w.1)) (λ z.
             close_tied v.1.1.1 ((w.0 ∷ []) ++ z.0) (own_after bound (own_after bound [] (shape_occurrences w.0)) (variables_in z.0))))))
       (all_parted text more)
@@ -274,14 +275,14 @@ module _ (end : End) (d : Declared) (short : AreShort d) (whole at : Shape) (bou
   entry_of_args f target ss = entry_to d whole at (shape.App f ss) target
 
   module _ (few : IsFew bound) (arrow : Token terminal.Arrow) (target : Token (terminal.Named place.EntryTarget)) where
-    abbrev end_tied : (node : Shape) (own : List ℕ) (l : Last) → is_quiet l ≡ true → IsTied end Whatever (amid d (whole ∷ at ∷ node ∷ []) bound own [] l) (label arrow ∷ (label target ∷ [])) (Unit {0} × Contains d.initial.states (text_of target)) (λ w. behind_entry (entry_to d whole at node (text_of target)))
-    end_tied node own l quiet = in_turn (arrow_tied d (whole ∷ at ∷ node ∷ []) bound own [] l quiet arrow) (λ u. target_tied d whole at node bound own any short refl target)
+    abbrev end_tied : (node : Shape) (own : List ℕ) (l : Last) → IsQuiet l → IsTied end Whatever (amid d (whole ∷ at ∷ node ∷ []) bound own [] l) (label arrow ∷ (label target ∷ [])) (Unit {0} × Contains d.initial.states (text_of target)) (λ w. behind_entry (entry_to d whole at node (text_of target)))
+    end_tied node own l quiet = in_turn (arrow_tied d (whole ∷ at ∷ node ∷ []) bound own [] l quiet arrow) (λ u. target_tied d whole at node bound own any short tt target)
 
     applied_tied : (f n : ℕ) (args : Args) → IsTied end Whatever (behind_head d (whole ∷ at ∷ []) bound f n) (tokens args arrow target)
         ((ss : List Shape) × IsApplied n (arguments_of args) (text_of target) ss) (λ w. behind_entry (entry_of_args f (text_of target) w.0))
     applied_tied f zero None =
         by_witness
-        (end_tied (shape.App f []) [] constant refl)
+        (end_tied (shape.App f []) [] constant tt)
         (λ v. (tt, v.1.state))
         (λ w. ([], record { arguments = record { are = refl; few = subst IsFew (sym (append-nil bound)) few }; counted = refl; state = w.1 }))
         (λ v. ap (λ ss. behind_entry (entry_of_args f (text_of target) ss)) (same_Some [] v.0 v.1.arguments.are))
@@ -312,7 +313,7 @@ module _ (end : End) (d : Declared) (short : AreShort d) (whole at : Shape) (bou
     applied_tied f (suc n) (Some args) =
         by_witness
         (in_turn (all_tied end d short (whole ∷ at ∷ []) bound f (suc n) args (omega arith) few) (λ w.
-          end_tied (shape.App f w.0) (own_after bound [] (variables_in w.0)) any refl))
+          end_tied (shape.App f w.0) (own_after bound [] (variables_in w.0)) any tt))
         (λ v. ((v.0, record { arguments = v.1.arguments; counted = v.1.counted }), (tt, v.1.state)))
         (λ w. (w.0.0, record { arguments = w.0.1.arguments; counted = w.0.1.counted; state = w.1.1 }))
         (λ v. refl)
@@ -395,7 +396,7 @@ module _ (end : End) (d : Declared) (short : AreShort d) (r : ApproximationRule)
       few = w.0.2.few;
     })
 
-  entry_tied : (v : Value grammar.entry) (l : Last) → is_quiet l ≡ true
+  entry_tied : (v : Value grammar.entry) (l : Last) → IsQuiet l
       → IsTied end Whatever (amid d (whole ∷ at ∷ []) bound [] [] l) (labelled grammar.entry v) ((e : Entry) × IsEntryHere d r (entry_of v) e) (λ w. behind_entries (w.0 ∷ []) leaf)
   entry_tied v l quiet =
       let head = text_of v.0 in
@@ -457,7 +458,7 @@ module _ (end : End) (r : ApproximationRule) (whole at : Shape) (bound : List �
   Entries d vs = (es : List Entry) × AreEntriesHere d (with_rule r (map entry_of vs)) es
 
   -- an entry, and entries behind it
-  entry_and_more : (v : Value grammar.entry) (vs : List (Value grammar.entry)) (d : Declared) → AreShort d → IsBegun (names_at d) r whole at bound → (l : Last) → is_quiet l ≡ true
+  entry_and_more : (v : Value grammar.entry) (vs : List (Value grammar.entry)) (d : Declared) → AreShort d → IsBegun (names_at d) r whole at bound → (l : Last) → IsQuiet l
       → ((w : (e : Entry) × IsEntryHere d r (entry_of v) e) → IsTied end Whatever (entries_at (with_entries d (w.0 ∷ []))) (flat_map (labelled grammar.entry) vs) (Entries (with_entries d (w.0 ∷ [])) vs) (λ z. entries_at (with_entries (with_entries d (w.0 ∷ [])) z.0)))
       → IsTied end Whatever (amid d (whole ∷ at ∷ []) bound [] [] l) (flat_map (labelled grammar.entry) (v ∷ vs)) (Entries d (v ∷ vs)) (λ z. entries_at (with_entries d z.0))
   entry_and_more v vs d short begun l quiet more =
@@ -481,10 +482,10 @@ module _ (end : End) (r : ApproximationRule) (whole at : Shape) (bound : List �
       (λ v. none_told d v.0 v.1)
       (λ w. ap entries_at (with_none d))
   entries_tied (v ∷ vs) d short begun few =
-      entry_and_more v vs d short begun leaf refl (λ w. entries_tied vs (with_entries d (w.0 ∷ [])) short begun (room_behind d (entry_of v) w.0 w.1))
+      entry_and_more v vs d short begun leaf tt (λ w. entries_tied vs (with_entries d (w.0 ∷ [])) short begun (room_behind d (entry_of v) w.0 w.1))
 
   -- at least one entry
-  pub some_tied : (v : Value grammar.entry) (vs : List (Value grammar.entry)) (d : Declared) → AreShort d → IsBegun (names_at d) r whole at bound → (l : Last) → is_quiet l ≡ true
+  pub some_tied : (v : Value grammar.entry) (vs : List (Value grammar.entry)) (d : Declared) → AreShort d → IsBegun (names_at d) r whole at bound → (l : Last) → IsQuiet l
       → IsTied end Whatever (amid d (whole ∷ at ∷ []) bound [] [] l) (labelled (grammar.some grammar.entry) (v, vs)) (Entries d (v ∷ vs)) (λ z. entries_at (with_entries d z.0))
   some_tied v vs d short begun l quiet =
       entry_and_more v vs d short begun l quiet (λ w. entries_tied vs (with_entries d (w.0 ∷ [])) short begun (room_behind d (entry_of v) w.0 w.1))

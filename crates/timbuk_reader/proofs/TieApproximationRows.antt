@@ -22,6 +22,7 @@ use Rattle.timbuk_reader.specs.declared.fault.LimitName.TheVariants as limit
 use Rattle.timbuk_reader.specs.Declarations.{Text, Declared, Application, Last, any, leaf, constant, function, Meaning, unknown, a_variable, a_state, a_symbol, no_head, or_else, as_symbol, as_variable, as_state, meaning}
 use Rattle.timbuk_reader.specs.Naming.{IsShort, Names, stands_for, leaf_shape, place_in}
 use Rattle.timbuk_reader.specs.Rows.{row, or, when, wrong_arity, wrong_after, wrong_count, unexpected_after, expected, too_deep, one_too_many, passed, misnamed, is_unknown}
+use Rattle.timbuk_reader.proofs.TieLast.{IsQuiet}
 use Rattle.timbuk_reader.proofs.TieNamesRuns.{or-none, or_parts_none, when-false, when_none, HasNoRow, row-none, row_parts}
 use Rattle.timbuk_reader.proofs.TieNamesRows.{IsNew, is_plain, opens, is_expected, passed_plain, misnamed_plain, is_name}
 use Rattle.timbuk_reader.proofs.TieNamesTexts.{position_found, Contains-position, place-position}
@@ -35,11 +36,6 @@ use Rattle.timbuk_reader.proofs.TieShapes.{shape_occurrences_var, shape_occurren
 abbrev pub amid : Declared → List Shape → List ℕ → List ℕ → List Application → Last → Declared
 amid d shapes bound own applications l = record d { name = []; applications = applications; shapes = shapes; bound = bound; own = own; head = no_head; head_args = []; last = l }
 
--- no parenthesis has to open next
-abbrev pub is_quiet : Last → Bool
-is_quiet function = false
-is_quiet _ = true
-
 -- the names that an approximation uses
 abbrev pub names_at : Declared → Names
 names_at d = record { symbols = d.symbols; variables = d.variables; states = d.initial.states }
@@ -50,18 +46,18 @@ AreShort d = sides.AreShort (names_at d)
 
 -- ---- the arity, and what may follow
 
-quiet_after : (l : Last) (x : Lexeme) → is_quiet l ≡ true → matches terminal.OpenParen x ≡ false → wrong_after l x ≡ false
+quiet_after : (l : Last) (x : Lexeme) → IsQuiet l → matches terminal.OpenParen x ≡ false → wrong_after l x ≡ false
 quiet_after any x q e = refl
 quiet_after leaf x q e = refl
 quiet_after constant x q e = e
-quiet_after function x q e = cc
+quiet_after function x q e = absurd q
 
 uncounted : (applications : List Application) (x : Lexeme) → matches terminal.CloseParen x ≡ false → matches terminal.Comma x ≡ false → wrong_count applications x ≡ false
 uncounted [] x e f = refl
 uncounted (a ∷ outer) x e f = or_from _ _ (and_left _ _ e) (and_left _ _ f)
 
 -- a token that is no parenthesis and no comma
-pub arity_right : (d : Declared) (x : Lexeme) → is_quiet d.last ≡ true → matches terminal.OpenParen x ≡ false → matches terminal.CloseParen x ≡ false → matches terminal.Comma x ≡ false → wrong_arity d x ≡ false
+pub arity_right : (d : Declared) (x : Lexeme) → IsQuiet d.last → matches terminal.OpenParen x ≡ false → matches terminal.CloseParen x ≡ false → matches terminal.Comma x ≡ false → wrong_arity d x ≡ false
 unfolding wrong_arity
 arity_right d x q a b c = or_from _ _ (quiet_after d.last x q a) (uncounted d.applications x b c)
 
@@ -112,7 +108,7 @@ plain_no_approximation terminal.CloseBracket d x s e = is_expected terminal.Clos
 plain_no_approximation terminal.CloseEntries d x s e = is_expected terminal.CloseEntries d x refl refl e
 plain_no_approximation _ d x s e = cc
 
-pub simple_row : (t : Terminal) (d : Declared) (x : Lexeme) → is_quiet d.last ≡ true → is_simple t ≡ true → matches t x ≡ true → row (Some t) d x ≡ None
+pub simple_row : (t : Terminal) (d : Declared) (x : Lexeme) → IsQuiet d.last → is_simple t ≡ true → matches t x ≡ true → row (Some t) d x ≡ None
 simple_row t d x q s e =
     let a = simple_apart t x s e in
     let k = simple_kind t s in
@@ -148,7 +144,7 @@ no_open_row d x l e h =
     cc
 
 -- in an application a comma may stand before the last argument, and the closing parenthesis behind it
-module _ (d : Declared) (x : Lexeme) (a : Application) (outer : List Application) (innermost : d.applications ≡ a ∷ outer) (quiet : is_quiet d.last ≡ true) where
+module _ (d : Declared) (x : Lexeme) (a : Application) (outer : List Application) (innermost : d.applications ≡ a ∷ outer) (quiet : IsQuiet d.last) where
   counted : wrong_count (a ∷ outer) x ≡ false → matches terminal.OpenParen x ≡ false → wrong_arity d x ≡ false
   unfolding wrong_arity
   counted e f = or_from _ _ (quiet_after d.last x quiet f) (ap (λ z. wrong_count z x) innermost ∙ e)
@@ -185,7 +181,7 @@ module _ (d : Declared) (x : Lexeme) (a : Application) (outer : List Application
 
 -- ---- names
 
-pub name_arity : (p : Place) (d : Declared) (x : Lexeme) → is_quiet d.last ≡ true → matches (terminal.Named p) x ≡ true → wrong_arity d x ≡ false
+pub name_arity : (p : Place) (d : Declared) (x : Lexeme) → IsQuiet d.last → matches (terminal.Named p) x ≡ true → wrong_arity d x ≡ false
 name_arity p d x q e = arity_right d x q (apart (terminal.Named p) terminal.OpenParen x refl e) (apart (terminal.Named p) terminal.CloseParen x refl e) (apart (terminal.Named p) terminal.Comma x refl e)
 
 short_at : (names : List Text) (text : Text) (q : ℕ) → All IsShort names → position (bytes_eq text) names ≡ Some q → IsShort text
@@ -232,7 +228,7 @@ module _ (d : Declared) (text : Text) (short : AreShort d) (few : IsFew (d.bound
   pub leaf_only : leaf_limits (leaf_meaning d text) text d ≡ None → is_unknown (leaf_meaning d text) ≡ false → (s : Shape) × IsLeaf (leaf_meaning d text) (d.bound ++ d.own) s
   leaf_only h k = only_by (position (bytes_eq text) d.variables) (position (bytes_eq text) d.initial.states) h k
 
-module _ (d : Declared) (x : Lexeme) (short : AreShort d) (few : IsFew (d.bound ++ d.own)) (quiet : is_quiet d.last ≡ true) where
+module _ (d : Declared) (x : Lexeme) (short : AreShort d) (few : IsFew (d.bound ++ d.own)) (quiet : IsQuiet d.last) where
   pub at_row : matches (terminal.Named place.EntryAt) x ≡ true → (s : Shape) → IsLeaf (leaf_meaning d x.text) (d.bound ++ d.own) s → row (Some (terminal.Named place.EntryAt)) d x ≡ None
   unfolding passed misnamed meaning
   at_row e s h =
@@ -268,7 +264,7 @@ pub record IsHead (m : Meaning) (entries : ℕ) (f n : ℕ) : Type 0 where
   pub symbol : m ≡ a_symbol f n
   pub few : entries < 1024
 
-module _ (d : Declared) (x : Lexeme) (short : AreShort d) (quiet : is_quiet d.last ≡ true) (none_open : d.applications ≡ []) where
+module _ (d : Declared) (x : Lexeme) (short : AreShort d) (quiet : IsQuiet d.last) (none_open : d.applications ≡ []) where
   abbrev head_limits : Meaning → Option LimitName
   head_limits m = or (when (nat_lt 255 (length x.text)) limit.NameBytes) (or (too_deep m d) (or (one_too_many m d) (when (true && nat_le 1024 (length d.entries)) limit.Entries)))
 
@@ -299,7 +295,7 @@ module _ (d : Declared) (x : Lexeme) (short : AreShort d) (quiet : is_quiet d.la
 
 -- ---- the state of an entry
 
-module _ (d : Declared) (x : Lexeme) (short : AreShort d) (quiet : is_quiet d.last ≡ true) where
+module _ (d : Declared) (x : Lexeme) (short : AreShort d) (quiet : IsQuiet d.last) where
   pub target_row : matches (terminal.Named place.EntryTarget) x ≡ true → Contains d.initial.states x.text → row (Some (terminal.Named place.EntryTarget)) d x ≡ None
   unfolding passed misnamed meaning
   target_row e h =

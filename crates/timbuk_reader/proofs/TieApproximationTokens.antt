@@ -19,11 +19,12 @@ use Rattle.timbuk_reader.specs.Naming.{leaf_shape, place_in}
 use Rattle.timbuk_reader.specs.Reading.{End}
 use Rattle.timbuk_reader.proofs.Labels.{Label, label}
 use Rattle.timbuk_reader.proofs.TieNamesTexts.{position_found}
+use Rattle.timbuk_reader.proofs.TieLast.{IsQuiet}
 use Rattle.timbuk_reader.proofs.TieApproximationSteps.{IsTied, one_token, free_token, by_witness}
 use Rattle.timbuk_reader.proofs.TieApproximationVariables.{IsFew, own_after}
 use Rattle.timbuk_reader.proofs.TieShapes.{shape_occurrences_var, shape_occurrences_state}
 use Rattle.timbuk_reader.proofs.TieVariables.{with_variable_is}
-use Rattle.timbuk_reader.proofs.TieApproximationRows.{amid, is_quiet, AreShort, is_simple, simple_row, IsLeaf, leaf_meaning, at_row, at_leaf, argument_row, argument_leaf, IsHead, symbol_meaning, head_row, head_symbol, target_row, target_state}
+use Rattle.timbuk_reader.proofs.TieApproximationRows.{amid, AreShort, is_simple, simple_row, IsLeaf, leaf_meaning, at_row, at_leaf, argument_row, argument_leaf, IsHead, symbol_meaning, head_row, head_symbol, target_row, target_state}
 
 abbrev leaf_by : Option ℕ → Option ℕ → Meaning
 leaf_by v q = or_else (as_variable v) (as_state q)
@@ -76,7 +77,7 @@ module _ (d : Declared) (shapes : List Shape) (bound : List ℕ) (l : Last) wher
   unfolding adds meaning
   at_adds text s h = at_told (position (bytes_eq text) d.variables) (position (bytes_eq text) d.initial.states) s h
 
-  pub at_tied : {end : End} {K : List Label → Type 0} → AreShort d → is_quiet l ≡ true → IsFew bound → (v : Token (terminal.Named place.EntryAt))
+  pub at_tied : {end : End} {K : List Label → Type 0} → AreShort d → IsQuiet l → IsFew bound → (v : Token (terminal.Named place.EntryAt))
       → IsTied end K (amid d shapes bound [] [] l) (label v ∷ []) ((s : Shape) × IsLeaf (leaf_meaning d (text_of v)) bound s) (λ w. behind_at d shapes bound w.0)
   at_tied short quiet few v =
       let all : IsFew (bound ++ []) = subst IsFew (sym (append-nil bound)) few in
@@ -115,7 +116,7 @@ module _ (d : Declared) (shapes : List Shape) (bound : List ℕ) (f n : ℕ) (ar
   unfolding adds meaning
   argument_adds text s h = argument_told (position (bytes_eq text) d.variables) (position (bytes_eq text) d.initial.states) s h
 
-  pub argument_tied : {end : End} {K : List Label → Type 0} → AreShort d → is_quiet l ≡ true → IsFew (bound ++ own) → (v : Token (terminal.Named place.EntryArgument))
+  pub argument_tied : {end : End} {K : List Label → Type 0} → AreShort d → IsQuiet l → IsFew (bound ++ own) → (v : Token (terminal.Named place.EntryArgument))
       → IsTied end K (among d shapes bound f n args own l) (label v ∷ []) ((s : Shape) × IsLeaf (leaf_meaning d (text_of v)) (bound ++ own) s) (λ w. behind_argument d shapes bound f n args own w.0)
   argument_tied short quiet few v =
       by_witness
@@ -138,7 +139,7 @@ module _ (d : Declared) (shapes : List Shape) (bound : List ℕ) (l : Last) wher
   unfolding adds meaning
   head_adds text f n e = head_told (symbol_meaning d text) f n e
 
-  pub head_tied : {end : End} {K : List Label → Type 0} → AreShort d → is_quiet l ≡ true → (v : Token (terminal.Named place.EntryHead))
+  pub head_tied : {end : End} {K : List Label → Type 0} → AreShort d → IsQuiet l → (v : Token (terminal.Named place.EntryHead))
       → IsTied end K (amid d shapes bound [] [] l) (label v ∷ []) ((f : ℕ) × (n : ℕ) × IsHead (symbol_meaning d (text_of v)) (length d.entries) f n) (λ w. behind_head d shapes bound w.0 w.1)
   head_tied short quiet v =
       by_witness
@@ -161,7 +162,7 @@ module _ (d : Declared) (whole at node : Shape) (bound own : List ℕ) (l : Last
   unfolding adds meaning
   target_adds text h = target_told (position (bytes_eq text) d.initial.states) (place_in d.initial.states text) (position_found d.initial.states text h)
 
-  pub target_tied : {end : End} {K : List Label → Type 0} → AreShort d → is_quiet l ≡ true → (v : Token (terminal.Named place.EntryTarget))
+  pub target_tied : {end : End} {K : List Label → Type 0} → AreShort d → IsQuiet l → (v : Token (terminal.Named place.EntryTarget))
       → IsTied end K (amid d (whole ∷ at ∷ node ∷ []) bound own [] l) (label v ∷ []) (Contains d.initial.states (text_of v)) (λ w. amid (with_entries d (entry_to d whole at node (text_of v) ∷ [])) (whole ∷ at ∷ []) bound [] [] leaf)
   target_tied short quiet v =
       by_witness
@@ -175,7 +176,7 @@ module _ (d : Declared) (whole at node : Shape) (bound own : List ℕ) (l : Last
 
 -- ---- words and marks
 
-module _ (d : Declared) (shapes : List Shape) (bound own : List ℕ) (applications : List Application) (l : Last) (quiet : is_quiet l ≡ true) where
+module _ (d : Declared) (shapes : List Shape) (bound own : List ℕ) (applications : List Application) (l : Last) (quiet : IsQuiet l) where
   abbrev here : Declared
   here = amid d shapes bound own applications l
 
