@@ -96,8 +96,11 @@ module _ (d : Declared) (shapes : List Shape) (bound : List ℕ) (f n : ℕ) (ar
   abbrev before_argument : Declared
   before_argument = among d shapes bound f n args own l
 
-  own_told : (v : ℕ) (b : Bool) → record (placed place.EntryArgument (shape.Var v) (if b then before_argument else record before_argument { own = with_variable own v })) { last = leaf }
-      ≡ among d shapes bound f n (args ++ shape.Var v ∷ []) (if b then own else with_variable own v) leaf
+  -- what a variable adds, where it is bound or isn't
+  abbrev variable_added : ℕ → Bool → Declared
+  variable_added v b = record (placed place.EntryArgument (shape.Var v) (if b then before_argument else record before_argument { own = with_variable own v })) { last = leaf }
+
+  own_told : (v : ℕ) (b : Bool) → variable_added v b ≡ among d shapes bound f n (args ++ shape.Var v ∷ []) (if b then own else with_variable own v) leaf
   own_told v true = refl
   own_told v false = refl
 
@@ -105,7 +108,7 @@ module _ (d : Declared) (shapes : List Shape) (bound : List ℕ) (f n : ℕ) (ar
   argument_told (Some v) q s h =
       let is : shape.Var v ≡ s = same_Some _ _ h in
       let variables : (if has bound v then own else with_variable own v) ≡ own_after bound own (shape_occurrences s) = ap (own_after bound own) (sym (ap shape_occurrences (sym is) ∙ shape_occurrences_var v)) in
-      own_told v (has bound v) ∙ (λ i. among d shapes bound f n (args ++ is i ∷ []) (variables i) leaf)
+      ◌∙◌ {a = variable_added v (has bound v)} (own_told v (has bound v)) (λ i. among d shapes bound f n (args ++ is i ∷ []) (variables i) leaf)
   argument_told None (Some q) s h =
       let is : shape.State q ≡ s = same_Some _ _ h in
       let variables : own ≡ own_after bound own (shape_occurrences s) = ap (own_after bound own) (sym (ap shape_occurrences (sym is) ∙ shape_occurrences_state q)) in

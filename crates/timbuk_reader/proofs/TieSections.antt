@@ -23,7 +23,7 @@ use Rattle.timbuk_reader.proofs.TieNamesTexts.{AreNewNames-nil}
 use Rattle.timbuk_reader.proofs.TieApproximationSteps.{reads}
 use Rattle.timbuk_reader.proofs.TieApproximation.{PatternsAreTied}
 use Rattle.timbuk_reader.proofs.TieSectionsParts.{Parts, parts_of, parts-push, with_section, early-push, early-pop, none_before, all_front, all_last, none_left}
-use Rattle.timbuk_reader.proofs.TieSectionsStates.{Sides, names_of_sides, AreSpelled, AreRead, closed_at, spelled_at, section_fine, section_only}
+use Rattle.timbuk_reader.proofs.TieSectionsStates.{Sides, names_of_sides, AreSpelled, AreRead, closed_at, spelled_at, SectionFine, SectionOnly, section_fine, section_only}
 
 -- ---- lists from their ends
 
@@ -88,6 +88,17 @@ module _ (end : End) (patterns : PatternsAreTied end) (symbols : List Symbol) (v
       let e = none_left (IsEntryFrom (names_of_sides symbols variables)) es h.entries in
       λ i. reads end (spelled no_parts (r i) (q i) (e i)) rest
 
+  abbrev IsFineAt : Value grammar.section → Parts → List RewriteRule → List RewriteEquation → List Entry → Type 0
+  IsFineAt = SectionFine end patterns symbols variables short_symbols short_variables distinct
+
+  -- sections, and one behind them
+  fine_by : (vs : List (Value grammar.section)) (v : Value grammar.section) → SectionsFine vs → (rs : List RewriteRule) (qs : List RewriteEquation) (es : List Entry) → AreOrderly (map section_of vs)
+      → IsFineAt v (parts_of (map section_of vs)) rs qs es → (rest : List Label) → NotOpening rest
+      → reads end (spelled no_parts [] [] []) (labelled_sections (vs ++ v ∷ []) ++ rest) ≡ reads end (spelled (with_section (section_of v) (parts_of (map section_of vs))) rs qs es) rest
+  fine_by vs v fine rs qs es orderly k rest clear =
+      ap (reads end (spelled no_parts [] [] [])) (sections-push vs v rest)
+      ∙ (fine k.rules k.equations k.entries orderly k.before (labelled grammar.section v ++ rest) (section_clear v rest) ∙ k.read rest clear)
+
   more_fine : (vs : List (Value grammar.section)) (v : Value grammar.section) → SectionsFine vs → SectionsFine (vs ++ v ∷ [])
   more_fine vs v fine rs qs es orderly h rest clear =
       let s = section_of v in
@@ -96,12 +107,10 @@ module _ (end : End) (patterns : PatternsAreTied end) (symbols : List Symbol) (v
       let parts_are : parts_of (map section_of (vs ++ v ∷ [])) ≡ with_section s (parts_of before) = ap parts_of are ∙ parts-push before s in
       let titles = subst (All (λ s. IsShort (title_of s))) are orderly.titles in
       let early = early-pop before s (subst NoneEarly are orderly.early) in
-      let k = section_fine end patterns symbols variables short_symbols short_variables distinct v (parts_of before) rs qs es
-          (all_last (λ s. IsShort (title_of s)) before s titles) (none_before before early.0) (subst (λ p. Spelled p rs qs es) parts_are h) in
-      ap (reads end (spelled no_parts [] [] [])) (sections-push vs v rest)
-      ∙ (fine k.rules k.equations k.entries (record { titles = all_front (λ s. IsShort (title_of s)) before (s ∷ []) titles; early = early.0 }) k.before (labelled grammar.section v ++ rest) (section_clear v rest)
-      ∙ (k.read rest clear
-      ∙ ap (λ p. reads end (spelled p rs qs es) rest) (sym parts_are)))
+      fine_by vs v fine rs qs es (record { titles = all_front (λ s. IsShort (title_of s)) before (s ∷ []) titles; early = early.0 })
+      (section_fine end patterns symbols variables short_symbols short_variables distinct v (parts_of before) rs qs es
+      (all_last (λ s. IsShort (title_of s)) before s titles) (none_before before early.0) (subst (λ p. Spelled p rs qs es) parts_are h)) rest clear
+      ∙ ap (λ p. reads end (spelled p rs qs es) rest) (sym parts_are)
 
   pub sections_fine : (vs : List (Value grammar.section)) → SectionsFine vs
   sections_fine = snoc_induction SectionsFine none_fine more_fine
@@ -139,25 +148,33 @@ module _ (end : End) (patterns : PatternsAreTied end) (symbols : List Symbol) (v
   none_only : SectionsOnly []
   none_only rest e clear h = record { rules = []; equations = []; entries = []; orderly = record { titles = All-nil _; early = tt }; allowed = none_allowed; behind = h }
 
-  more_only : (vs : List (Value grammar.section)) (v : Value grammar.section) → SectionsOnly vs → SectionsOnly (vs ++ v ∷ [])
-  more_only vs v only rest e clear h =
+  abbrev IsOnlyAt : Value grammar.section → Parts → List Label → Declared → Type 0
+  IsOnlyAt = SectionOnly end patterns symbols variables short_symbols short_variables distinct
+
+  -- sections, and one behind them
+  read_to : (vs : List (Value grammar.section)) (v : Value grammar.section) (rest : List Label) (e : Declared) → AreOrderly (map section_of vs) → IsOnlyAt v (parts_of (map section_of vs)) rest e → AreReadTo (map section_of (vs ++ v ∷ [])) rest e
+  read_to vs v rest e orderly o =
       let s = section_of v in
       let before = map section_of vs in
       let are : map section_of (vs ++ v ∷ []) ≡ before ++ s ∷ [] = map-append section_of vs (v ∷ []) in
       let parts_are : parts_of (map section_of (vs ++ v ∷ [])) ≡ with_section s (parts_of before) = ap parts_of are ∙ parts-push before s in
-      let k = only (labelled grammar.section v ++ rest) e (section_clear v rest) (sym (ap (reads end (declared no_parts [] [] [])) (sections-push vs v rest)) ∙ h) in
-      let o = section_only end patterns symbols variables short_symbols short_variables distinct v (parts_of before) k.rules k.equations k.entries rest e k.allowed (none_before before k.orderly.early) clear k.behind in
       record {
         rules = o.rules;
         equations = o.equations;
         entries = o.entries;
         orderly = record {
-          titles = subst (All (λ s. IsShort (title_of s))) (sym are) (All-push (λ s. IsShort (title_of s)) before s k.orderly.titles o.title);
-          early = subst NoneEarly (sym are) (early-push before s k.orderly.early o.late);
+          titles = subst (All (λ s. IsShort (title_of s))) (sym are) (All-push (λ s. IsShort (title_of s)) before s orderly.titles o.title);
+          early = subst NoneEarly (sym are) (early-push before s orderly.early o.late);
         };
         allowed = subst (λ p. Read p o.rules o.equations o.entries) (sym parts_are) o.allowed;
         behind = ap (λ p. reads end (declared p o.rules o.equations o.entries) rest) parts_are ∙ o.behind;
       }
+
+  more_only : (vs : List (Value grammar.section)) (v : Value grammar.section) → SectionsOnly vs → SectionsOnly (vs ++ v ∷ [])
+  more_only vs v only rest e clear h =
+      let k = only (labelled grammar.section v ++ rest) e (section_clear v rest) (sym (ap (reads end (declared no_parts [] [] [])) (sections-push vs v rest)) ∙ h) in
+      read_to vs v rest e k.orderly
+      (section_only end patterns symbols variables short_symbols short_variables distinct v (parts_of (map section_of vs)) k.rules k.equations k.entries rest e k.allowed (none_before (map section_of vs) k.orderly.early) clear k.behind)
 
   pub sections_only : (vs : List (Value grammar.section)) → SectionsOnly vs
   sections_only = snoc_induction SectionsOnly none_only more_only

@@ -5,6 +5,7 @@ use Rattle.std.specs.Str.{bytes_eq}
 use Rattle.std.proofs.lemmas.Bool.{false_from_ne_true, eqb-true}
 use Rattle.std.proofs.lemmas.List.{append-nil}
 use Rattle.ranked_terms.specs.Names.{Symbol, names_of}
+use Rattle.trs_rules.specs.declared.entry.Entry.{Entry}
 use Rattle.ta_core.specs.declared.spec.Spec.{Spec}
 use Rattle.timbuk_grammar.specs.Grammar as grammar
 use Rattle.timbuk_grammar.specs.Trees.{Value}
@@ -27,8 +28,8 @@ use Rattle.timbuk_reader.proofs.TieApproximation.{closed}
 use Rattle.timbuk_reader.proofs.TieApproximationPatterns.{patterns_are_tied}
 use Rattle.timbuk_reader.proofs.TieSectionsParts.{parts_of}
 use Rattle.timbuk_reader.proofs.TieSectionsSteps.{ok_below, leads_tied}
-use Rattle.timbuk_reader.proofs.TieSectionsStates.{some_there, there_are_some, closed_at, spelled_at}
-use Rattle.timbuk_reader.proofs.TieSections.{labelled_sections, sections_fine, sections_only}
+use Rattle.timbuk_reader.proofs.TieSectionsStates.{Sides, some_there, there_are_some, AreRead, closed_at, spelled_at}
+use Rattle.timbuk_reader.proofs.TieSections.{AreOrderly, labelled_sections, sections_fine, sections_only}
 use Rattle.timbuk_reader.proofs.TieSectionsSpells.{IsSpelledBy, spelled_by, IsReadAs, spells}
 
 -- ---- the last token
@@ -122,21 +123,27 @@ file_fine end v spec h =
 
 -- ---- a text that is read
 
+read_as : (v : Value grammar.file) (spec : Spec) (d : Declared) (rs qs : Sides) (es : List Entry) → AreSymbols (symbols_in v.0) → AreNewNames (names_of (signature_of (symbols_in v.0))) 1024 (variables_in v.1.0) → AreOrderly (map section_of v.1.1)
+    → AreRead (signature_of (symbols_in v.0)) (variables_in v.1.0) (parts_of (map section_of v.1.1)) rs qs es
+    → IsWholeAt (closed_at (signature_of (symbols_in v.0)) (variables_in v.1.0) (parts_of (map section_of v.1.1)) rs qs es) (forgets d) → IsSpecOf d spec → IsReadAs (source_of v) spec
+read_as v spec d rs qs es new_symbols new_variables orderly allowed e k = record {
+  symbols = new_symbols;
+  variables = new_variables;
+  orderly = orderly;
+  some = there_are_some (automata_in (map section_of v.1.1)) e.some;
+  rules = rs;
+  equations = qs;
+  entries = es;
+  read = allowed;
+  spec_of = subst (λ s. IsSpecOf s spec) (sym e.is) (spec_of_forgotten d spec k);
+}
+
 pub file_only : (end : End) (v : Value grammar.file) (spec : Spec) (d : Declared) → judge end nothing (labelled grammar.file v) ≡ Ok d → IsSpecOf d spec → Spells (source_of v) spec
 file_only end v spec d h k =
     let ss = signature_of (symbols_in v.0) in
     let vs = variables_in v.1.0 in
     let front = (front_tied end v).only (labelled_sections v.1.1 ++ []) (forgets d) tt (ap (reads end nothing) (sym (labels_are end v)) ∙ ap calm h) in
     let a = sections_only end (patterns_are_tied end) ss vs (symbols_short (symbols_in v.0) front.0.0) front.0.1.short front.0.1.distinct v.1.1 [] (forgets d) tt front.1 in
-    let e = whole_at_end end (closed_at ss vs (parts_of (map section_of v.1.1)) a.rules a.equations a.entries) (forgets d) a.behind in
-    spells (source_of v) spec (record {
-      symbols = front.0.0;
-      variables = front.0.1;
-      orderly = a.orderly;
-      some = there_are_some (automata_in (map section_of v.1.1)) e.some;
-      rules = a.rules;
-      equations = a.equations;
-      entries = a.entries;
-      read = a.allowed;
-      spec_of = subst (λ s. IsSpecOf s spec) (sym e.is) (spec_of_forgotten d spec k);
-    })
+    spells (source_of v) spec
+    (read_as v spec d a.rules a.equations a.entries front.0.0 front.0.1 a.orderly a.allowed
+    (whole_at_end end (closed_at ss vs (parts_of (map section_of v.1.1)) a.rules a.equations a.entries) (forgets d) a.behind) k)
