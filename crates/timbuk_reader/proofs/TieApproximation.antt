@@ -1,7 +1,7 @@
 -- The section of the approximation, told exactly.
-use Rattle.std.proofs.Common.{◌≡◌, ℕ, zero, suc, ◌+◌, ◌<◌, ◌≤◌, Bool, true, false, ◌&&◌, ◌==◌, List, [], ◌∷◌, ◌++◌, length, map, fold, Option, Some, None, All, refl, sym, ap, subst, ◌∙◌, append_assoc, length-append, arith}
-use Rattle.std.specs.Prelude.{flat_map, nat_le}
-use Rattle.std.specs.List.{AllZip, IsDistinct}
+use Rattle.std.proofs.Common.{◌≡◌, ◌+◌, ◌<◌, ◌≤◌, true, false, ◌&&◌, ◌==◌, List, [], ◌∷◌, ◌++◌, length, map, fold, Some, None, refl, sym, ap, subst, ◌∙◌, append_assoc, length-append, arith}
+use Rattle.std.specs.Prelude.{flat_map}
+use Rattle.std.specs.List.{AllZip}
 use Rattle.std.proofs.lemmas.Bool.{or_from, or_parts, and_right, ltb-false, leb-false, le-ltb, lt-leb}
 use Rattle.std.proofs.lemmas.List.{append-nil}
 use Rattle.std.proofs.lemmas.List.Sums.{fold-append}
@@ -22,16 +22,16 @@ use Rattle.timbuk_reader.specs.Source.{Arrow, ApproximationRule, text_of, entry_
 use Rattle.timbuk_reader.specs.Naming.{IsShort, AreNewNames, shape_in, nesting_in}
 use Rattle.timbuk_reader.specs.Reading.{End}
 use Rattle.timbuk_reader.specs.SpecText.{IsEntryFrom, entries_of}
-use Rattle.timbuk_reader.proofs.Labels.{Label, label, labelled, labelled_pattern}
+use Rattle.timbuk_reader.proofs.Labels.{label, labelled, labelled_pattern}
 use Rattle.timbuk_reader.proofs.TieLast.{IsQuiet, NotOpening}
 use Rattle.timbuk_reader.proofs.TieApproximationSteps.{Whatever, IsTied, no_tokens, one_token, free_token, in_turn, in_turn_at, by_witness}
 use Rattle.timbuk_reader.proofs.TieApproximationVariables.{IsFew, fewer}
-use Rattle.timbuk_reader.specs.Rows.{row, is_in, when, passed, misnamed, unexpected_after, expected}
+use Rattle.timbuk_reader.specs.Rows.{row, is_in, passed, misnamed, unexpected_after, expected}
 use Rattle.timbuk_reader.proofs.TieNamesRuns.{or-none, or_parts_none, when-false, when_none, row-none, row_parts}
 use Rattle.timbuk_reader.proofs.TieNamesRows.{IsNew, title_row, short_title, is_expected, misnamed_plain}
 use Rattle.timbuk_reader.proofs.TieNamesTexts.{IsNew-middle, AreNewNames-push}
 use Rattle.timbuk_reader.proofs.TieApproximationRows.{amid, names_at, AreShort, IsLeaf, leaf_meaning, arity_right, name_arity, simple_row}
-use Rattle.timbuk_reader.proofs.TieApproximationTokens.{with_entries, behind_at, at_tied, open_bracket_tied, arrow_tied, close_bracket_tied, close_entries_tied}
+use Rattle.timbuk_reader.proofs.TieApproximationTokens.{with_entries, at_tied, open_bracket_tied, arrow_tied, close_bracket_tied, close_entries_tied}
 use Rattle.timbuk_reader.proofs.TieApproximationEntries.{IsBegun, AreEntriesHere, with_rule, with_none, with_more, some_tied}
 
 -- ---- the whole pattern of a rule
@@ -133,17 +133,17 @@ module _ (end : End) (patterns : PatternsAreTied end) where
       let some = v.1.1.1.1.1.1.1.0 in
       by_witness
       (in_turn (open_bracket_tied d [] [] [] [] any tt v.0) (λ u0.
-        in_turn_at {J = NotOpening} (λ rest k. apart terminal.Arrow terminal.OpenParen v.1.1.0.lexeme refl v.1.1.0.matched) (patterns d short v.1.0) (λ w.
-          let bound = firsts (shape_occurrences w.0) in
-          in_turn (arrow_tied d (w.0 ∷ []) bound [] [] any tt v.1.1.0) (λ u1.
-            in_turn (at_tied d (w.0 ∷ []) bound any short tt w.1.few v.1.1.1.0) (λ z.
-              let all = fold with_first bound (shape_occurrences z.0) in
-              let shapes = w.0 ∷ z.0 ∷ [] in
-              in_turn (close_bracket_tied d shapes all [] [] leaf tt v.1.1.1.1.0) (λ u2.
-                in_turn (arrow_tied d shapes all [] [] any tt v.1.1.1.1.1.0) (λ u3.
-                  in_turn (open_bracket_tied d shapes all [] [] any tt v.1.1.1.1.1.1.0) (λ u4.
-                    in_turn (some_tied end r w.0 z.0 all some.0 some.1 d short (begun_by d r (entry_of some.0) (map entry_of some.1) w.0 z.0 w.1 z.1) any tt) (λ es.
-                      close_entries_tied (with_entries d es.0) shapes all [] [] leaf tt v.1.1.1.1.1.1.1.1)))))))))
+      in_turn_at {J = NotOpening} (λ rest k. apart terminal.Arrow terminal.OpenParen v.1.1.0.lexeme refl v.1.1.0.matched) (patterns d short v.1.0) (λ w.
+      let bound = firsts (shape_occurrences w.0) in
+      in_turn (arrow_tied d (w.0 ∷ []) bound [] [] any tt v.1.1.0) (λ u1.
+      in_turn (at_tied d (w.0 ∷ []) bound any short tt w.1.few v.1.1.1.0) (λ z.
+      let all = fold with_first bound (shape_occurrences z.0) in
+      let shapes = w.0 ∷ z.0 ∷ [] in
+      in_turn (close_bracket_tied d shapes all [] [] leaf tt v.1.1.1.1.0) (λ u2.
+      in_turn (arrow_tied d shapes all [] [] any tt v.1.1.1.1.1.0) (λ u3.
+      in_turn (open_bracket_tied d shapes all [] [] any tt v.1.1.1.1.1.1.0) (λ u4.
+      in_turn (some_tied end r w.0 z.0 all some.0 some.1 d short (begun_by d r (entry_of some.0) (map entry_of some.1) w.0 z.0 w.1 z.1) any tt) (λ es.
+      close_entries_tied (with_entries d es.0) shapes all [] [] leaf tt v.1.1.1.1.1.1.1.1)))))))))
       (rule_parted d r (entry_of some.0) (map entry_of some.1))
       (rule_joint d r (entry_of some.0) (map entry_of some.1))
       (λ es. refl)
@@ -256,7 +256,7 @@ module _ {end : End} where
   zero_tied d (Some v) =
       by_witness
       (in_turn (free_token (closed d) v.0 (simple_row terminal.Colon (closed d) v.0.lexeme tt refl v.0.matched)) (λ u.
-        free_token (closed d) v.1 (simple_row terminal.Zero (closed d) v.1.lexeme tt refl v.1.matched)))
+      free_token (closed d) v.1 (simple_row terminal.Zero (closed d) v.1.lexeme tt refl v.1.matched)))
       (λ u. (tt, tt))
       (λ w. tt)
       (λ u. refl)
@@ -267,7 +267,7 @@ module _ {end : End} where
   state_tied d v =
       by_witness
       (in_turn (one_token (closed d) v.0 (IsNewState d (text_of v.0)) (λ w. state_row (closed d) v.0.lexeme tt v.0.matched w) (λ h. new_state (closed d) v.0.lexeme tt h)) (λ w.
-        zero_tied (with_extra d (text_of v.0 ∷ [])) v.1))
+      zero_tied (with_extra d (text_of v.0 ∷ [])) v.1))
       (λ w. (w, tt))
       (λ w. w.0)
       (λ w. refl)
@@ -365,11 +365,11 @@ module _ {end : End} (patterns : PatternsAreTied end) (d : Declared) (short : Ar
       let d1 = next_approximation d in
       by_witness
       (in_turn (word_tied v.0) (λ place.
-        in_turn (title_tied d1 v.1.0) (λ title.
-          in_turn (states_word_tied d1 v.1.1.0) (λ u.
-            in_turn (states_tied v.1.1.1.0 d1 known) (λ new.
-              in_turn (rules_word_tied (with_extra d1 names) v.1.1.1.1.0) (λ u2.
-                rules_tied end patterns v.1.1.1.1.1 (with_extra d1 names) (record { symbols = short.symbols; variables = short.variables; states = new.short }) few))))))
+      in_turn (title_tied d1 v.1.0) (λ title.
+      in_turn (states_word_tied d1 v.1.1.0) (λ u.
+      in_turn (states_tied v.1.1.1.0 d1 known) (λ new.
+      in_turn (rules_word_tied (with_extra d1 names) v.1.1.1.1.0) (λ u2.
+      rules_tied end patterns v.1.1.1.1.1 (with_extra d1 names) (record { symbols = short.symbols; variables = short.variables; states = new.short }) few))))))
       (λ w. (w.1.place, (w.1.short_title, (tt, (w.1.states, (tt, (w.0, record { from = w.1.entries.from; few = w.1.entries.few })))))))
       (λ w. (w.1.1.1.1.1.0, record { place = w.0; short_title = w.1.0; states = w.1.1.1.0; entries = record { from = w.1.1.1.1.1.1.from; few = w.1.1.1.1.1.1.few } }))
       (λ w. refl)

@@ -1,5 +1,5 @@
 -- The entries of an approximation rule, each told exactly.
-use Rattle.std.proofs.Common.{◌≡◌, ℕ, zero, suc, ◌+◌, ◌<◌, ◌≤◌, Bool, true, false, ◌==◌, List, [], ◌∷◌, ◌++◌, length, map, fold, Option, Some, None, Contains, inl, inr, refl, sym, ap, subst, ◌∙◌, append_assoc, length-append, arith}
+use Rattle.std.proofs.Common.{◌≡◌, ℕ, zero, suc, ◌+◌, ◌<◌, ◌≤◌, Bool, true, false, ◌==◌, List, [], ◌∷◌, ◌++◌, length, map, fold, Option, Some, None, Contains, refl, sym, ap, subst, ◌∙◌, append_assoc, length-append, arith}
 use Rattle.std.specs.Prelude.{flat_map, if◌then◌else◌}
 use Rattle.std.specs.List.{AllZip}
 use Rattle.std.proofs.lemmas.Bool.{eqb-true, eq-eqb}
@@ -16,14 +16,14 @@ use Rattle.timbuk_grammar.specs.declared.terminal.Terminal.TheVariants as termin
 use Rattle.timbuk_grammar.specs.Grammar as grammar
 use Rattle.timbuk_grammar.specs.Grammar.{one, ◌then◌}
 use Rattle.timbuk_grammar.specs.Trees.{Token, Value}
-use Rattle.timbuk_reader.specs.Declarations.{Text, Declared, Last, any, leaf, constant, function, Meaning, unknown, a_variable, a_state, a_symbol, closes, adds}
+use Rattle.timbuk_reader.specs.Declarations.{Text, Declared, Last, any, leaf, constant, function, Meaning, unknown, a_variable, a_state, a_symbol, adds}
 use Rattle.timbuk_reader.specs.Source.{Arrow, ApproximationRule, text_of, arguments_of, entry_of}
 use Rattle.timbuk_reader.specs.Naming.{Names, stands_for, leaf_shape, node_shape, one_and_more, shape_in, nesting_in, leaves}
 use Rattle.timbuk_reader.specs.Reading.{End}
 use Rattle.timbuk_reader.specs.SpecText.{without_symbols, IsEntryFrom}
 use Rattle.timbuk_reader.proofs.Labels.{Label, label, labelled}
 use Rattle.timbuk_reader.proofs.TieLast.{IsQuiet}
-use Rattle.timbuk_reader.proofs.TieApproximationSteps.{Whatever, IsTied, no_tokens, one_token, free_token, no_token, in_turn, by_witness, from_state}
+use Rattle.timbuk_reader.proofs.TieApproximationSteps.{Whatever, IsTied, no_tokens, one_token, free_token, no_token, in_turn, by_witness}
 use Rattle.timbuk_reader.proofs.TieApproximationVariables.{IsFew, own_with, own_after, both_after, fewer}
 use Rattle.timbuk_reader.proofs.TieShapes.{shape_occurrences_app}
 use Rattle.timbuk_reader.proofs.TieApproximationRows.{amid, names_at, AreShort, IsLeaf, leaf_meaning, IsHead, symbol_meaning, open_row, no_open_row, comma_row, more_to_come, close_row, all_there, no_simple_row}
@@ -136,23 +136,31 @@ module _ (end : End) (d : Declared) (short : AreShort d) (shapes : List Shape) (
     abbrev parted : All → (length args < n) × ((w : First) × After w.0)
     parted v =
         let k = pair_of v in
-        let lengths : length (k.first ∷ k.rest) ≡ length v.0 = ap length k.is in
-        (omega (arith, v.1.fit, lengths),
-        ((k.first, k.is_first),
-        (k.rest, record {
-          arguments = subst (λ vs. AreArguments (names_at d) vs (texts_of more) k.rest) (sym (both_after bound own (shape_occurrences k.first))) k.are_rest;
-          fit = omega (arith, v.1.fit, lengths, length-append args (k.first ∷ []));
-        })))
+        let lengths : length (k.first ∷ k.rest) ≡ length v.0 = ap length k.is in (
+          omega (arith, v.1.fit, lengths),
+          (
+            (k.first, k.is_first),
+            (
+              k.rest,
+              record {
+                arguments = subst (λ vs. AreArguments (names_at d) vs (texts_of more) k.rest) (sym (both_after bound own (shape_occurrences k.first))) k.are_rest;
+                fit = omega (arith, v.1.fit, lengths, length-append args (k.first ∷ []));
+              },
+            ),
+          ),
+        )
 
     abbrev joint : (length args < n) × ((w : First) × After w.0) → All
     joint w =
         let s = w.1.0.0 in
-        let ss = w.1.1.0 in
-        (s ∷ ss, record {
-          arguments = arguments_cons (names_at d) (bound ++ own) text (texts_of more) s ss w.1.0.1.shape
-              (subst (λ vs. AreArguments (names_at d) vs (texts_of more) ss) (both_after bound own (shape_occurrences s)) w.1.1.1.arguments);
-          fit = omega (arith, w.1.1.1.fit, length-append args (s ∷ []));
-        })
+        let ss = w.1.1.0 in (
+          s ∷ ss,
+          record {
+            arguments = arguments_cons (names_at d) (bound ++ own) text (texts_of more) s ss w.1.0.1.shape
+                (subst (λ vs. AreArguments (names_at d) vs (texts_of more) ss) (both_after bound own (shape_occurrences s)) w.1.1.1.arguments);
+            fit = omega (arith, w.1.1.1.fit, length-append args (s ∷ []));
+          },
+        )
 
   more_tied : (more : List More) (args : List Shape) (own : List ℕ) → length args ≤ n → IsFew (bound ++ own)
       → IsTied end Whatever (among d shapes bound f n args own leaf) (flat_map (labelled (one terminal.Comma then grammar.name place.EntryArgument)) more)
@@ -167,8 +175,8 @@ module _ (end : End) (d : Declared) (short : AreShort d) (shapes : List Shape) (
   more_tied (m ∷ more) args own le few =
       by_witness
       (in_turn (comma_tied m.0 args own) (λ lt.
-        in_turn (argument_tied d shapes bound f n args own any short tt few m.1) (λ w.
-          more_tied more (args ++ w.0 ∷ []) (own_after bound own (shape_occurrences w.0)) (omega (arith, lt, length-append args (w.0 ∷ []))) (few_behind args own (text_of m.1) more w.0 w.1))))
+      in_turn (argument_tied d shapes bound f n args own any short tt few m.1) (λ w.
+      more_tied more (args ++ w.0 ∷ []) (own_after bound own (shape_occurrences w.0)) (omega (arith, lt, length-append args (w.0 ∷ []))) (few_behind args own (text_of m.1) more w.0 w.1))))
       (parted args own (text_of m.1) more)
       (joint args own (text_of m.1) more)
       (λ v. let k = pair_of args own (text_of m.1) more v in behind_cons args own k.first k.rest ∙ ap (behind_more args own) k.is)
@@ -227,9 +235,9 @@ module _ (end : End) (d : Declared) (short : AreShort d) (shapes : List Shape) (
       let none_yet : IsFew (bound ++ []) = subst IsFew (sym (append-nil bound)) few in
       by_witness
       (in_turn (open_tied v.0) (λ u.
-        in_turn (argument_tied d shapes bound f n [] [] any short tt none_yet v.1.0) (λ w.
-          in_turn (more_tied more (w.0 ∷ []) (own_after bound [] (shape_occurrences w.0)) some (few_behind [] [] text more w.0 w.1)) (λ z.
-            close_tied v.1.1.1 ((w.0 ∷ []) ++ z.0) (own_after bound (own_after bound [] (shape_occurrences w.0)) (variables_in z.0))))))
+      in_turn (argument_tied d shapes bound f n [] [] any short tt none_yet v.1.0) (λ w.
+      in_turn (more_tied more (w.0 ∷ []) (own_after bound [] (shape_occurrences w.0)) some (few_behind [] [] text more w.0 w.1)) (λ z.
+      close_tied v.1.1.1 ((w.0 ∷ []) ++ z.0) (own_after bound (own_after bound [] (shape_occurrences w.0)) (variables_in z.0))))))
       (all_parted text more)
       (all_joint text more)
       (λ w. let k = pair_of [] [] text more (as_more text more w) in behind_first text more k.first k.rest ∙ ap behind_all k.is)
@@ -290,7 +298,7 @@ module _ (end : End) (d : Declared) (short : AreShort d) (whole at : Shape) (bou
     applied_tied f (suc n) None =
         by_witness
         (no_token {told = λ w. absurd w} (behind_head d (whole ∷ at ∷ []) bound f (suc n)) arrow (label target ∷ [])
-          (no_simple_row terminal.Arrow (behind_head d (whole ∷ at ∷ []) bound f (suc n)) arrow.lexeme refl refl arrow.matched))
+        (no_simple_row terminal.Arrow (behind_head d (whole ∷ at ∷ []) bound f (suc n)) arrow.lexeme refl refl arrow.matched))
         (λ v. let none : 0 ≡ length v.0 = ap length (same_Some [] v.0 v.1.arguments.are) in omega (arith, none, v.1.counted))
         (λ w. absurd w)
         (λ v. let none : 0 ≡ length v.0 = ap length (same_Some [] v.0 v.1.arguments.are) in absurd (omega (arith, none, v.1.counted)))
@@ -298,7 +306,7 @@ module _ (end : End) (d : Declared) (short : AreShort d) (whole at : Shape) (bou
     applied_tied f zero (Some args) =
         by_witness
         (no_token {told = λ w. absurd w} (behind_head d (whole ∷ at ∷ []) bound f zero) args.0 _
-          (no_open_row (behind_head d (whole ∷ at ∷ []) bound f zero) args.0.lexeme refl args.0.matched))
+        (no_open_row (behind_head d (whole ∷ at ∷ []) bound f zero) args.0.lexeme refl args.0.matched))
         (λ v. no_arguments v.0 v.1)
         (λ w. absurd w)
         (λ v. absurd (no_arguments v.0 v.1))
@@ -313,7 +321,7 @@ module _ (end : End) (d : Declared) (short : AreShort d) (whole at : Shape) (bou
     applied_tied f (suc n) (Some args) =
         by_witness
         (in_turn (all_tied end d short (whole ∷ at ∷ []) bound f (suc n) args (omega arith) few) (λ w.
-          end_tied (shape.App f w.0) (own_after bound [] (variables_in w.0)) any tt))
+        end_tied (shape.App f w.0) (own_after bound [] (variables_in w.0)) any tt))
         (λ v. ((v.0, record { arguments = v.1.arguments; counted = v.1.counted }), (tt, v.1.state)))
         (λ w. (w.0.0, record { arguments = w.0.1.arguments; counted = w.0.1.counted; state = w.1.1 }))
         (λ v. refl)
@@ -373,28 +381,32 @@ module _ (end : End) (d : Declared) (short : AreShort d) (r : ApproximationRule)
 
     abbrev entry_parted : ((e : Entry) × IsEntryHere d r arrow_read e) → Read
     entry_parted v =
-        let k = node_of v.0 v.1 in
-        ((k.sym, k.arity, record { symbol = k.means; few = v.1.few }),
-        (v.1.from.args, record { arguments = record { are = v.1.from.are_args; few = few_read v.0 v.1 }; counted = k.counted; state = v.1.from.is_state }))
+        let k = node_of v.0 v.1 in (
+          (k.sym, k.arity, record { symbol = k.means; few = v.1.few }),
+          (v.1.from.args, record { arguments = record { are = v.1.from.are_args; few = few_read v.0 v.1 }; counted = k.counted; state = v.1.from.is_state }),
+        )
 
     node_joint : (m : Meaning) (f n : ℕ) (ss : List Shape) → m ≡ a_symbol f n → n ≡ length ss → node_shape m ss ≡ Some (shape.App f ss)
     node_joint m f n ss e h = ap (λ z. node_shape z ss) e ∙ ap (λ b. if b then Some (shape.App f ss) else None) (eq-eqb n (length ss) h)
 
     abbrev entry_joint : Read → ((e : Entry) × IsEntryHere d r arrow_read e)
-    entry_joint w = (entry_read w.0.0 w.1.0, record {
-      from = record {
-        whole = begun.whole_is;
-        nesting = begun.nesting;
-        at = begun.at_is;
-        args = w.1.0;
-        are_args = w.1.1.arguments.are;
-        node = node_joint (symbol_meaning d head) w.0.0 w.0.1 w.1.0 w.0.2.symbol w.1.1.counted;
-        is_state = w.1.1.state;
-        target = refl;
-        few_variables = subst IsFew (sym (variables_are whole at w.0.0 w.1.0 bound begun.bound_is)) w.1.1.arguments.few;
-      };
-      few = w.0.2.few;
-    })
+    entry_joint w = (
+      entry_read w.0.0 w.1.0,
+      record {
+        from = record {
+          whole = begun.whole_is;
+          nesting = begun.nesting;
+          at = begun.at_is;
+          args = w.1.0;
+          are_args = w.1.1.arguments.are;
+          node = node_joint (symbol_meaning d head) w.0.0 w.0.1 w.1.0 w.0.2.symbol w.1.1.counted;
+          is_state = w.1.1.state;
+          target = refl;
+          few_variables = subst IsFew (sym (variables_are whole at w.0.0 w.1.0 bound begun.bound_is)) w.1.1.arguments.few;
+        };
+        few = w.0.2.few;
+      },
+    )
 
   entry_tied : (v : Value grammar.entry) (l : Last) → IsQuiet l
       → IsTied end Whatever (amid d (whole ∷ at ∷ []) bound [] [] l) (labelled grammar.entry v) ((e : Entry) × IsEntryHere d r (entry_of v) e) (λ w. behind_entries (w.0 ∷ []) leaf)
@@ -403,7 +415,7 @@ module _ (end : End) (d : Declared) (short : AreShort d) (r : ApproximationRule)
       let target = text_of v.1.1.1 in
       by_witness
       (in_turn (head_tied d (whole ∷ at ∷ []) bound l short quiet v.0) (λ w.
-        applied_tied end d short whole at bound begun.few v.1.1.0 v.1.1.1 w.0 w.1 v.1.0))
+      applied_tied end d short whole at bound begun.few v.1.1.0 v.1.1.1 w.0 w.1 v.1.0))
       (entry_parted head target v.1.0)
       (entry_joint head target v.1.0)
       (λ w. ap (λ e. behind_entries (e ∷ []) leaf) (same_entry head target v.1.0 w.0 w.1))

@@ -1,6 +1,6 @@
 -- The whole pattern of an approximation rule, told exactly.
-use Rattle.std.proofs.Common.{◌≡◌, ℕ, ◌+◌, ◌≤◌, true, List, [], ◌∷◌, ◌++◌, length, fold, Some, Ok, refl, sym, ap, subst, ◌∙◌, arith}
-use Rattle.ranked_terms.specs.Terms.{with_variable as with_first, firsts}
+use Rattle.std.proofs.Common.{◌≡◌, [], ◌∷◌, fold, Some, refl, sym, ap, subst, ◌∙◌, arith}
+use Rattle.ranked_terms.specs.Terms.{firsts}
 use Rattle.ranked_terms.specs.declared.term.Shape.{Shape}
 use Rattle.ta_core.specs.SpecRules.{shape_occurrences}
 use Rattle.timbuk_grammar.specs.declared.terminal.Place.TheVariants as place
@@ -8,15 +8,13 @@ use Rattle.timbuk_grammar.specs.Trees.{Tree}
 use Rattle.timbuk_reader.specs.Declarations.{Declared, any, with_variable}
 use Rattle.timbuk_reader.specs.Naming.{shape_in}
 use Rattle.timbuk_reader.specs.Reading.{End}
-use Rattle.timbuk_reader.proofs.Labels.{Label, labelled_pattern}
-use Rattle.timbuk_reader.proofs.TieLast.{settled, NotOpening}
+use Rattle.timbuk_reader.proofs.TieLast.{settled}
 use Rattle.timbuk_reader.proofs.TiePatternNames.{in_whole}
-use Rattle.timbuk_reader.proofs.TiePatterns.{variables_in, all_taken, PatternFits, pattern_fine}
+use Rattle.timbuk_reader.proofs.TiePatterns.{variables_in, PatternFits, pattern_fine}
 use Rattle.timbuk_reader.proofs.TieOnly.{pattern_only}
 use Rattle.timbuk_reader.proofs.TieShapes.{tree_occurrences}
 use Rattle.timbuk_reader.proofs.TieSides as sides
 use Rattle.timbuk_reader.proofs.TieVariables.{taken_firsts, taken_few, few_taken}
-use Rattle.timbuk_reader.proofs.TieApproximationSteps.{IsTied}
 use Rattle.timbuk_reader.proofs.TieApproximationVariables.{IsFew}
 use Rattle.timbuk_reader.proofs.TieApproximationRows.{amid, names_at, AreShort}
 use Rattle.timbuk_reader.proofs.TieApproximation.{IsWholePattern, PatternsAreTied}

@@ -1,10 +1,10 @@
 -- The rows of the table at the tokens of an approximation.
-use Rattle.std.proofs.Common.{◌≡◌, ℕ, zero, suc, ◌+◌, ◌<◌, ◌≤◌, Bool, true, false, not, ◌&&◌, ◌||◌, ◌==◌, nat_lt, nat_le, List, [], ◌∷◌, ◌++◌, length, position, fold, Option, Some, None, All, Contains, unwrap_or, refl, sym, ap, subst, ◌∙◌, arith}
+use Rattle.std.proofs.Common.{◌≡◌, ℕ, ◌<◌, ◌≤◌, Bool, true, false, not, ◌&&◌, nat_lt, nat_le, List, [], ◌∷◌, ◌++◌, length, position, fold, Option, Some, None, All, Contains, unwrap_or, refl, sym, ap, subst, ◌∙◌}
 use Rattle.std.specs.Str.{bytes_eq}
 use Rattle.std.proofs.lemmas.Bool.{or_from, or_parts, and_left, and_right, ltb-false, leb-false, le-ltb, lt-leb}
 use Rattle.std.proofs.lemmas.List.Elements.{All-contains}
 use Rattle.std.proofs.lemmas.Option.{same_Some}
-use Rattle.ranked_terms.specs.Names.{Symbol, names_of, number_of, arity_of}
+use Rattle.ranked_terms.specs.Names.{names_of, number_of, arity_of}
 use Rattle.ranked_terms.specs.Terms.{with_variable as with_first}
 use Rattle.ranked_terms.specs.declared.term.Shape.{Shape}
 use Rattle.ranked_terms.specs.declared.term.Shape.TheVariants as shape
@@ -16,16 +16,15 @@ use Rattle.timbuk_grammar.specs.declared.terminal.Terminal.{Terminal}
 use Rattle.timbuk_grammar.specs.declared.terminal.Terminal.TheVariants as terminal
 use Rattle.timbuk_grammar.specs.Matching.{matches}
 use Rattle.timbuk_grammar.proofs.Differ.{apart}
-use Rattle.timbuk_reader.specs.declared.fault.SpecKind.{SpecKind}
 use Rattle.timbuk_reader.specs.declared.fault.LimitName.{LimitName}
 use Rattle.timbuk_reader.specs.declared.fault.LimitName.TheVariants as limit
-use Rattle.timbuk_reader.specs.Declarations.{Text, Declared, Application, Last, any, leaf, constant, function, Meaning, unknown, a_variable, a_state, a_symbol, no_head, or_else, as_symbol, as_variable, as_state, meaning}
-use Rattle.timbuk_reader.specs.Naming.{IsShort, Names, stands_for, leaf_shape, place_in}
+use Rattle.timbuk_reader.specs.Declarations.{Text, Declared, Application, Last, any, leaf, constant, function, Meaning, unknown, a_symbol, no_head, or_else, as_symbol, as_variable, as_state, meaning}
+use Rattle.timbuk_reader.specs.Naming.{IsShort, Names, leaf_shape}
 use Rattle.timbuk_reader.specs.Rows.{row, or, when, wrong_arity, wrong_after, wrong_count, unexpected_after, expected, too_deep, one_too_many, passed, misnamed, is_unknown}
 use Rattle.timbuk_reader.proofs.TieLast.{IsQuiet}
-use Rattle.timbuk_reader.proofs.TieNamesRuns.{or-none, or_parts_none, when-false, when_none, HasNoRow, row-none, row_parts}
-use Rattle.timbuk_reader.proofs.TieNamesRows.{IsNew, is_plain, opens, is_expected, passed_plain, misnamed_plain, is_name}
-use Rattle.timbuk_reader.proofs.TieNamesTexts.{position_found, Contains-position, place-position}
+use Rattle.timbuk_reader.proofs.TieNamesRuns.{or-none, or_parts_none, when-false, when_none, row-none, row_parts}
+use Rattle.timbuk_reader.proofs.TieNamesRows.{is_plain, opens, is_expected, passed_plain, misnamed_plain, is_name}
+use Rattle.timbuk_reader.proofs.TieNamesTexts.{position_found, Contains-position}
 use Rattle.timbuk_reader.proofs.TieSides as sides
 use Rattle.timbuk_reader.proofs.TieApproximationVariables.{IsFew, too_many, room, few_with}
 use Rattle.timbuk_reader.proofs.TieShapes.{shape_occurrences_var, shape_occurrences_state}

@@ -1,5 +1,5 @@
 -- What tokens declare, told exactly: where they may stand, the judge goes on from the state behind them, and it comes to the end nowhere else.
-use Rattle.std.proofs.Common.{◌≡◌, Bool, true, false, ◌||◌, ◌&&◌, List, [], ◌∷◌, ◌++◌, None, Some, Ok, Err, refl, sym, ap, subst, ◌∙◌, append_assoc}
+use Rattle.std.proofs.Common.{◌≡◌, List, [], ◌∷◌, ◌++◌, None, Some, Ok, refl, sym, ap, subst, ◌∙◌, append_assoc}
 use Rattle.std.specs.Prelude.{Option}
 use Rattle.timbuk_lex.specs.declared.lexeme.Lexeme.{Lexeme}
 use Rattle.timbuk_grammar.specs.declared.terminal.Terminal.{Terminal}
@@ -9,7 +9,7 @@ use Rattle.timbuk_reader.specs.Declarations.{Declared, adds}
 use Rattle.timbuk_reader.specs.Rows.{row}
 use Rattle.timbuk_reader.specs.Reading.{Outcome, End, unless}
 use Rattle.timbuk_reader.proofs.Labels.{Label, label, judge}
-use Rattle.timbuk_reader.proofs.TieLast.{forgets, calm}
+use Rattle.timbuk_reader.proofs.TieLast.{calm}
 
 -- what is read, where the last token is forgotten at the end
 abbrev pub reads : End → Declared → List Label → Outcome

@@ -1,5 +1,5 @@
 -- The names of an approximation rule, each told exactly.
-use Rattle.std.proofs.Common.{◌≡◌, ℕ, zero, suc, ◌+◌, ◌<◌, ◌≤◌, Bool, true, false, List, [], ◌∷◌, ◌++◌, length, position, fold, Option, Some, None, Contains, refl, sym, ap, subst, ◌∙◌}
+use Rattle.std.proofs.Common.{◌≡◌, ℕ, zero, suc, Bool, true, false, List, [], ◌∷◌, ◌++◌, length, position, fold, Option, Some, None, Contains, refl, sym, ap, subst, ◌∙◌}
 use Rattle.std.specs.Prelude.{if◌then◌else◌}
 use Rattle.std.specs.Str.{bytes_eq}
 use Rattle.std.proofs.lemmas.List.{append-nil}
@@ -10,10 +10,9 @@ use Rattle.ranked_terms.specs.declared.term.Shape.TheVariants as shape
 use Rattle.trs_rules.specs.declared.entry.Entry.{Entry}
 use Rattle.ta_core.specs.SpecRules.{shape_occurrences}
 use Rattle.timbuk_grammar.specs.declared.terminal.Place.TheVariants as place
-use Rattle.timbuk_grammar.specs.declared.terminal.Terminal.{Terminal}
 use Rattle.timbuk_grammar.specs.declared.terminal.Terminal.TheVariants as terminal
 use Rattle.timbuk_grammar.specs.Trees.{Token}
-use Rattle.timbuk_reader.specs.Declarations.{Text, Declared, Application, Last, any, leaf, constant, function, Meaning, unknown, a_variable, a_state, a_symbol, has, with_variable, or_else, as_variable, as_state, meaning, placed, uses, named, adds}
+use Rattle.timbuk_reader.specs.Declarations.{Text, Declared, Application, Last, any, leaf, constant, function, Meaning, a_symbol, has, with_variable, or_else, as_variable, as_state, meaning, placed, named, adds}
 use Rattle.timbuk_reader.specs.Source.{text_of}
 use Rattle.timbuk_reader.specs.Naming.{leaf_shape, place_in}
 use Rattle.timbuk_reader.specs.Reading.{End}
@@ -24,7 +23,7 @@ use Rattle.timbuk_reader.proofs.TieApproximationSteps.{IsTied, one_token, free_t
 use Rattle.timbuk_reader.proofs.TieApproximationVariables.{IsFew, own_after}
 use Rattle.timbuk_reader.proofs.TieShapes.{shape_occurrences_var, shape_occurrences_state}
 use Rattle.timbuk_reader.proofs.TieVariables.{with_variable_is}
-use Rattle.timbuk_reader.proofs.TieApproximationRows.{amid, AreShort, is_simple, simple_row, IsLeaf, leaf_meaning, at_row, at_leaf, argument_row, argument_leaf, IsHead, symbol_meaning, head_row, head_symbol, target_row, target_state}
+use Rattle.timbuk_reader.proofs.TieApproximationRows.{amid, AreShort, simple_row, IsLeaf, leaf_meaning, at_row, at_leaf, argument_row, argument_leaf, IsHead, symbol_meaning, head_row, head_symbol, target_row, target_state}
 
 abbrev leaf_by : Option ℕ → Option ℕ → Meaning
 leaf_by v q = or_else (as_variable v) (as_state q)
@@ -83,8 +82,8 @@ module _ (d : Declared) (shapes : List Shape) (bound : List ℕ) (l : Last) wher
       let all : IsFew (bound ++ []) = subst IsFew (sym (append-nil bound)) few in
       by_witness
       (one_token (amid d shapes bound [] [] l) v ((s : Shape) × IsLeaf (leaf_meaning d (text_of v)) (bound ++ []) s)
-        (λ w. at_row (amid d shapes bound [] [] l) v.lexeme short all quiet v.matched w.0 w.1)
-        (λ h. at_leaf (amid d shapes bound [] [] l) v.lexeme short all quiet h))
+      (λ w. at_row (amid d shapes bound [] [] l) v.lexeme short all quiet v.matched w.0 w.1)
+      (λ h. at_leaf (amid d shapes bound [] [] l) v.lexeme short all quiet h))
       (λ w. (w.0, subst (λ vs. IsLeaf (leaf_meaning d (text_of v)) vs w.0) (sym (append-nil bound)) w.1))
       (λ w. (w.0, subst (λ vs. IsLeaf (leaf_meaning d (text_of v)) vs w.0) (append-nil bound) w.1))
       (λ w. at_adds (text_of v) w.0 w.1.shape)
@@ -124,8 +123,8 @@ module _ (d : Declared) (shapes : List Shape) (bound : List ℕ) (f n : ℕ) (ar
   argument_tied short quiet few v =
       by_witness
       (one_token before_argument v ((s : Shape) × IsLeaf (leaf_meaning d (text_of v)) (bound ++ own) s)
-        (λ w. argument_row before_argument v.lexeme short few quiet v.matched w.0 w.1)
-        (λ h. argument_leaf before_argument v.lexeme short few quiet h))
+      (λ w. argument_row before_argument v.lexeme short few quiet v.matched w.0 w.1)
+      (λ h. argument_leaf before_argument v.lexeme short few quiet h))
       (λ w. w)
       (λ w. w)
       (λ w. argument_adds (text_of v) w.0 w.1.shape)
@@ -147,8 +146,8 @@ module _ (d : Declared) (shapes : List Shape) (bound : List ℕ) (l : Last) wher
   head_tied short quiet v =
       by_witness
       (one_token (amid d shapes bound [] [] l) v ((f : ℕ) × (n : ℕ) × IsHead (symbol_meaning d (text_of v)) (length d.entries) f n)
-        (λ w. head_row (amid d shapes bound [] [] l) v.lexeme short quiet refl v.matched w.0 w.1 w.2)
-        (λ h. head_symbol (amid d shapes bound [] [] l) v.lexeme short quiet refl h))
+      (λ w. head_row (amid d shapes bound [] [] l) v.lexeme short quiet refl v.matched w.0 w.1 w.2)
+      (λ h. head_symbol (amid d shapes bound [] [] l) v.lexeme short quiet refl h))
       (λ w. w)
       (λ w. w)
       (λ w. head_adds (text_of v) w.0 w.1 w.2.symbol)
@@ -170,8 +169,8 @@ module _ (d : Declared) (whole at node : Shape) (bound own : List ℕ) (l : Last
   target_tied short quiet v =
       by_witness
       (one_token before_target v (Contains d.initial.states (text_of v))
-        (λ w. target_row before_target v.lexeme short quiet v.matched w)
-        (λ h. target_state before_target v.lexeme short quiet h))
+      (λ w. target_row before_target v.lexeme short quiet v.matched w)
+      (λ h. target_state before_target v.lexeme short quiet h))
       (λ w. w)
       (λ w. w)
       (λ w. target_adds (text_of v) w)

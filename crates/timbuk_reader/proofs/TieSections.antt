@@ -1,7 +1,7 @@
 -- Many sections against the judge.
-use Rattle.std.proofs.Common.{◌≡◌, ℕ, ◌≤◌, List, [], ◌∷◌, ◌++◌, length, map, Some, Ok, All, inl, inr, refl, sym, ap, subst, ◌∙◌, append_assoc, arith}
+use Rattle.std.proofs.Common.{◌≡◌, List, [], ◌∷◌, ◌++◌, map, Ok, All, inl, inr, refl, sym, ap, subst, ◌∙◌, append_assoc, arith}
 use Rattle.std.specs.Prelude.{flat_map}
-use Rattle.std.specs.List.{AllZip, IsDistinct}
+use Rattle.std.specs.List.{IsDistinct}
 use Rattle.std.specs.Str.{bytes_eq}
 use Rattle.std.proofs.lemmas.List.{append-nil, map-append}
 use Rattle.std.proofs.lemmas.List.Elements.{All-nil, All-push}
@@ -14,7 +14,7 @@ use Rattle.timbuk_grammar.specs.Trees.{Value}
 use Rattle.timbuk_grammar.proofs.Differ.{apart}
 use Rattle.timbuk_reader.specs.Declarations.{Text, Declared}
 use Rattle.timbuk_reader.specs.Source.{Section, section_of}
-use Rattle.timbuk_reader.specs.Naming.{IsShort, AreNewNames}
+use Rattle.timbuk_reader.specs.Naming.{IsShort}
 use Rattle.timbuk_reader.specs.Reading.{End}
 use Rattle.timbuk_reader.specs.SpecText.{title_of, NoneEarly, IsRuleFrom, IsEquationFrom, IsEntryFrom}
 use Rattle.timbuk_reader.proofs.Labels.{Label, labelled}

@@ -1,8 +1,5 @@
 -- A text's tree against the judge: it is read to its end exactly where its declarations spell a specification, and that is what is read.
-use Rattle.std.proofs.Common.{◌≡◌, ℕ, ◌≤◌, true, false, ◌==◌, List, [], ◌∷◌, ◌++◌, length, map, Option, Some, None, Ok, Err, All, refl, sym, ap, subst, ◌∙◌, append_assoc, arith}
-use Rattle.std.specs.List.{IsDistinct}
-use Rattle.std.specs.Str.{bytes_eq}
-use Rattle.std.proofs.lemmas.Bool.{false_from_ne_true, eqb-true}
+use Rattle.std.proofs.Common.{◌≡◌, false, ◌==◌, List, [], ◌++◌, map, Option, Some, None, Ok, Err, refl, sym, ap, subst, ◌∙◌, append_assoc}
 use Rattle.std.proofs.lemmas.List.{append-nil}
 use Rattle.ranked_terms.specs.Names.{Symbol, names_of}
 use Rattle.trs_rules.specs.declared.entry.Entry.{Entry}
@@ -10,14 +7,14 @@ use Rattle.ta_core.specs.declared.spec.Spec.{Spec}
 use Rattle.timbuk_grammar.specs.Grammar as grammar
 use Rattle.timbuk_grammar.specs.Trees.{Value}
 use Rattle.timbuk_reader.specs.declared.fault.SpecKind.{SpecKind}
-use Rattle.timbuk_reader.specs.Declarations.{Text, Declared, any, nothing}
-use Rattle.timbuk_reader.specs.Source.{AutomatonDeclaration, symbols_in, variables_in, section_of, source_of}
-use Rattle.timbuk_reader.specs.Naming.{IsShort, signature_of, AreSymbols, AreNewNames}
+use Rattle.timbuk_reader.specs.Declarations.{Text, Declared, nothing}
+use Rattle.timbuk_reader.specs.Source.{symbols_in, variables_in, section_of, source_of}
+use Rattle.timbuk_reader.specs.Naming.{signature_of, AreSymbols, AreNewNames}
 use Rattle.timbuk_reader.specs.Rows.{when, end_row}
 use Rattle.timbuk_reader.specs.Reading.{Outcome, End, end_by}
 use Rattle.timbuk_reader.specs.SpecText.{automata_in, Spells}
 use Rattle.timbuk_reader.specs.Spelled.{IsSpecOf}
-use Rattle.timbuk_reader.proofs.Labels.{Label, labelled, judge}
+use Rattle.timbuk_reader.proofs.Labels.{labelled, judge}
 use Rattle.timbuk_reader.proofs.TieLast.{forgets, calm}
 use Rattle.timbuk_reader.proofs.TieNamesRuns.{when-false, when_none}
 use Rattle.timbuk_reader.proofs.TieNamesTexts.{AreSymbols-nil, AreNewNames-nil}
@@ -30,20 +27,38 @@ use Rattle.timbuk_reader.proofs.TieSectionsParts.{parts_of}
 use Rattle.timbuk_reader.proofs.TieSectionsSteps.{ok_below, leads_tied}
 use Rattle.timbuk_reader.proofs.TieSectionsStates.{Sides, some_there, there_are_some, AreRead, closed_at, spelled_at}
 use Rattle.timbuk_reader.proofs.TieSections.{AreOrderly, labelled_sections, sections_fine, sections_only}
-use Rattle.timbuk_reader.proofs.TieSectionsSpells.{IsSpelledBy, spelled_by, IsReadAs, spells}
+use Rattle.timbuk_reader.proofs.TieSectionsSpells.{spelled_by, IsReadAs, spells}
 
 -- ---- the last token
 
 spec_of_forgotten : (d : Declared) (spec : Spec) → IsSpecOf d spec → IsSpecOf (forgets d) spec
 spec_of_forgotten d spec h = record {
-  signature = h.signature; vars = h.vars; rules = h.rules; are_rules = h.are_rules; equations = h.equations; are_equations = h.are_equations;
-  entries = h.entries; extra = h.extra; approximated = h.approximated; initial = h.initial; forbidden = h.forbidden;
+  signature = h.signature;
+  vars = h.vars;
+  rules = h.rules;
+  are_rules = h.are_rules;
+  equations = h.equations;
+  are_equations = h.are_equations;
+  entries = h.entries;
+  extra = h.extra;
+  approximated = h.approximated;
+  initial = h.initial;
+  forbidden = h.forbidden;
 }
 
 spec_of_remembered : (d : Declared) (spec : Spec) → IsSpecOf (forgets d) spec → IsSpecOf d spec
 spec_of_remembered d spec h = record {
-  signature = h.signature; vars = h.vars; rules = h.rules; are_rules = h.are_rules; equations = h.equations; are_equations = h.are_equations;
-  entries = h.entries; extra = h.extra; approximated = h.approximated; initial = h.initial; forbidden = h.forbidden;
+  signature = h.signature;
+  vars = h.vars;
+  rules = h.rules;
+  are_rules = h.are_rules;
+  equations = h.equations;
+  are_equations = h.are_equations;
+  entries = h.entries;
+  extra = h.extra;
+  approximated = h.approximated;
+  initial = h.initial;
+  forbidden = h.forbidden;
 }
 
 -- ---- the end
@@ -113,10 +128,10 @@ file_fine end v spec h =
     let d = spelled_at ss vs (parts_of (map section_of v.1.1)) spec.rules spec.equations spec.entries in
     let sections = sections_fine end (patterns_are_tied end) ss vs (symbols_short (symbols_in v.0) k.symbols) k.variables.short k.variables.distinct v.1.1 spec.rules spec.equations spec.entries k.orderly k.spelled [] tt in
     let all : reads end nothing (labelled grammar.file v) ≡ Ok d =
-        ap (reads end nothing) (labels_are end v)
-        ∙ ((front_tied end v).fine (k.symbols, k.variables) (labelled_sections v.1.1 ++ []) tt
-        ∙ (sections
-        ∙ none_at_end end d (some_there (automata_in (map section_of v.1.1)) k.some))) in
+    ap (reads end nothing) (labels_are end v)
+    ∙ ((front_tied end v).fine (k.symbols, k.variables) (labelled_sections v.1.1 ++ []) tt
+    ∙ (sections
+    ∙ none_at_end end d (some_there (automata_in (map section_of v.1.1)) k.some))) in
     let b = ok_below (judge end nothing (labelled grammar.file v)) d all in
     let same : forgets b.0 ≡ d = same_declared b.0 d (ap calm (sym b.1) ∙ all) in
     record { declared = b.0; judged = b.1; spec_of = spec_of_remembered b.0 spec (subst (λ s. IsSpecOf s spec) (sym same) k.spec_of) }

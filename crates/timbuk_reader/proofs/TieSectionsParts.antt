@@ -1,5 +1,5 @@
 -- What sections declare, kind by kind, and one section more.
-use Rattle.std.proofs.Common.{◌≡◌, ◌≢◌, ℕ, zero, suc, ◌+◌, ◌<◌, ◌≤◌, false, List, [], ◌∷◌, ◌++◌, length, map, All, Contains, refl, sym, ap, subst, ◌∙◌, append_assoc, length-append, arith}
+use Rattle.std.proofs.Common.{◌≡◌, ℕ, ◌+◌, ◌<◌, ◌≤◌, false, List, [], ◌∷◌, ◌++◌, length, All, Contains, refl, sym, ap, subst, ◌∙◌, append_assoc, length-append, arith}
 use Rattle.std.specs.Prelude.{flat_map}
 use Rattle.std.specs.List.{AllZip, IsDistinct, AllByRecursion}
 use Rattle.std.specs.Str.{bytes_eq}
@@ -10,8 +10,8 @@ use Rattle.trs_rules.specs.declared.entry.Entry.{Entry}
 use Rattle.timbuk_reader.specs.Declarations.{Text}
 use Rattle.timbuk_reader.specs.Source.{RuleDeclaration, EquationDeclaration, AutomatonDeclaration, ApproximationRule, Section, system, automaton, equations, approximation}
 use Rattle.timbuk_reader.specs.Naming.{IsShort, AreNewNames, Names, IsTransition}
-use Rattle.timbuk_reader.specs.SpecText.{systems_in, automata_in, equations_in, approximations_in, title_of, NoneEarly, IsEntryFrom, entries_of, all_of}
-use Rattle.timbuk_reader.proofs.TieApproximation.{AreCut, cut, both}
+use Rattle.timbuk_reader.specs.SpecText.{systems_in, automata_in, equations_in, approximations_in, NoneEarly, IsEntryFrom, entries_of, all_of}
+use Rattle.timbuk_reader.proofs.TieApproximation.{cut, both}
 
 -- ---- sections kind by kind
 

@@ -1,5 +1,5 @@
 -- What declarations spell, by the state behind their sections.
-use Rattle.std.proofs.Common.{◌≡◌, ℕ, zero, suc, ◌+◌, ◌-◌, ◌≤◌, ◌<◌, List, [], ◌∷◌, ◌++◌, length, map, All, Contains, refl, sym, ap, subst, ◌∙◌, length-append, arith}
+use Rattle.std.proofs.Common.{◌≡◌, ◌-◌, ◌≤◌, List, [], ◌∷◌, ◌++◌, length, map, All, refl, sym, ap, subst, ◌∙◌, length-append, arith}
 use Rattle.std.specs.List.{AllZip}
 use Rattle.std.proofs.lemmas.List.{length-map}
 use Rattle.std.proofs.lemmas.List.Elements.{All-nil, All-cons, All-head, All-tail}
@@ -40,17 +40,19 @@ rules_by_sides : (names : Names) (ds : List RuleDeclaration) (rs : List RewriteR
 rules_by_sides names [] [] are h = tt
 rules_by_sides names [] (r ∷ rs) are h = absurd h
 rules_by_sides names (d ∷ ds) [] are h = absurd h
-rules_by_sides names (d ∷ ds) (r ∷ rs) are h =
-    (record { left = h.0.left; right = h.0.right; left_nesting = h.0.left_nesting; right_nesting = h.0.right_nesting; is_rule = All-head IsRule r rs are },
-    rules_by_sides names ds rs (All-tail IsRule r rs are) h.1)
+rules_by_sides names (d ∷ ds) (r ∷ rs) are h = (
+  record { left = h.0.left; right = h.0.right; left_nesting = h.0.left_nesting; right_nesting = h.0.right_nesting; is_rule = All-head IsRule r rs are },
+  rules_by_sides names ds rs (All-tail IsRule r rs are) h.1,
+)
 
 equations_by_sides : (names : Names) (ds : List EquationDeclaration) (qs : List RewriteEquation) → All IsEquation qs → AllZip (AreEquationSides names) ds (map equation_sides qs) → AllZip (IsEquationFrom names) ds qs
 equations_by_sides names [] [] are h = tt
 equations_by_sides names [] (q ∷ qs) are h = absurd h
 equations_by_sides names (d ∷ ds) [] are h = absurd h
-equations_by_sides names (d ∷ ds) (q ∷ qs) are h =
-    (record { left = h.0.left; right = h.0.right; left_nesting = h.0.left_nesting; right_nesting = h.0.right_nesting; is_equation = All-head IsEquation q qs are },
-    equations_by_sides names ds qs (All-tail IsEquation q qs are) h.1)
+equations_by_sides names (d ∷ ds) (q ∷ qs) are h = (
+  record { left = h.0.left; right = h.0.right; left_nesting = h.0.left_nesting; right_nesting = h.0.right_nesting; is_equation = All-head IsEquation q qs are },
+  equations_by_sides names ds qs (All-tail IsEquation q qs are) h.1,
+)
 
 -- ---- automata
 
@@ -234,7 +236,7 @@ module _ (source : Source) (spec : Spec) (h : IsReadAs source spec) where
       let states = subst (λ l. AreNewNames (names_of ss ++ vs) 16384 (initial_states l ++ extra)) e h.read.states in
       let entries = subst (λ l. AllZip (IsEntryFrom (record { symbols = ss; variables = vs; states = initial_states l ++ extra })) (entries_of (approximation_rules source.sections)) h.entries) e h.read.entries in
       let initial = first_from ss vs first extra spec.initial (All-head (IsDeclarable ss vs) first others automata.each)
-          (subst (λ l. IsAutomatonOf (length (initial_states l ++ extra) - length extra) (record (initial_of ss l) { states = initial_states l ++ extra }) spec.initial) e h.spec_of.initial) in
+      (subst (λ l. IsAutomatonOf (length (initial_states l ++ extra) - length extra) (record (initial_of ss l) { states = initial_states l ++ extra }) spec.initial) e h.spec_of.initial) in
       let forbidden = other_from ss vs first others spec.forbidden automata (subst (λ l. IsAutomatonOf (length (second_of ss l).states) (second_of ss l) spec.forbidden) e h.spec_of.forbidden) in
       let rules_count = rule_sides_are in
       let equations_count = equation_sides_are in

@@ -1,6 +1,6 @@
 -- The state behind sections, and one section more.
-use Rattle.std.proofs.Common.{◌≡◌, ℕ, zero, suc, ◌+◌, ◌<◌, ◌≤◌, false, ◌==◌, List, [], ◌∷◌, ◌++◌, length, map, Some, Ok, All, inl, inr, refl, sym, ap, subst, ◌∙◌, length-append, arith}
-use Rattle.std.specs.List.{AllZip, IsDistinct}
+use Rattle.std.proofs.Common.{◌≡◌, ◌+◌, ◌<◌, ◌≤◌, false, ◌==◌, List, [], ◌∷◌, ◌++◌, length, map, Ok, All, inl, inr, refl, sym, ap, ◌∙◌, length-append, arith}
+use Rattle.std.specs.List.{IsDistinct}
 use Rattle.std.specs.Str.{bytes_eq}
 use Rattle.std.proofs.lemmas.Bool.{false_from_ne_true, eqb-true}
 use Rattle.std.proofs.lemmas.List.{append-nil, map-append, length-map}
@@ -12,7 +12,7 @@ use Rattle.trs_rules.specs.declared.entry.Entry.{Entry}
 use Rattle.timbuk_grammar.specs.Grammar as grammar
 use Rattle.timbuk_grammar.specs.Trees.{Value}
 use Rattle.timbuk_reader.specs.Declarations.{Text, Declared, Started, any, no_automaton, nothing, current}
-use Rattle.timbuk_reader.specs.Source.{RuleDeclaration, EquationDeclaration, AutomatonDeclaration, ApproximationRule, Section, system, automaton, equations, approximation, text_of, rule_of, equation_of, automaton_of, approximation_rule_of, state_of, section_of}
+use Rattle.timbuk_reader.specs.Source.{RuleDeclaration, EquationDeclaration, AutomatonDeclaration, ApproximationRule, system, automaton, equations, approximation, text_of, rule_of, equation_of, automaton_of, approximation_rule_of, state_of, section_of}
 use Rattle.timbuk_reader.specs.Naming.{IsShort, Names}
 use Rattle.timbuk_reader.specs.Reading.{End}
 use Rattle.timbuk_reader.specs.SpecText.{title_of, IsRuleFrom, IsEquationFrom}
@@ -29,7 +29,7 @@ use Rattle.timbuk_reader.proofs.TieAutomata.{IsAllowedAutomaton, started_by, nex
 use Rattle.timbuk_reader.proofs.TieApproximationSteps.{reads, reads_row}
 use Rattle.timbuk_reader.proofs.TieApproximationRows.{AreShort}
 use Rattle.timbuk_reader.proofs.TieApproximation.{closed, PatternsAreTied, with_approximation, approximation_tied}
-use Rattle.timbuk_reader.proofs.TieSectionsParts.{Parts, with_section, IsLate, initial_states, extra_of, IsDeclarable, AreAllowed, push_system, push_equations, push_automaton, push_approximation, pop_system, pop_equations, pop_automaton, pop_approximation, first_states, no_approximation}
+use Rattle.timbuk_reader.proofs.TieSectionsParts.{Parts, with_section, IsLate, initial_states, extra_of, AreAllowed, push_system, push_equations, push_automaton, push_approximation, pop_system, pop_equations, pop_automaton, pop_approximation, first_states, no_approximation}
 use Rattle.timbuk_reader.proofs.TieSectionsSteps.{AreRuleSides, AreEquationSides, with_system, with_equations_section, system_fine, system_only, equations_section_fine, equations_section_only, automaton_tied}
 
 abbrev pub Sides : Type 0

@@ -1,15 +1,13 @@
 -- One section of a text against the judge.
-use Rattle.std.proofs.Common.{◌≡◌, ℕ, zero, suc, ◌+◌, ◌<◌, ◌≤◌, false, ◌==◌, List, [], ◌∷◌, ◌++◌, length, map, Option, Some, None, Ok, Err, All, refl, sym, ap, subst, ◌∙◌, append_assoc, length-append, arith}
+use Rattle.std.proofs.Common.{◌≡◌, ◌+◌, ◌<◌, ◌≤◌, List, [], ◌∷◌, ◌++◌, length, map, Some, Ok, Err, All, refl, sym, ap, ◌∙◌, arith}
 use Rattle.std.specs.Prelude.{flat_map}
 use Rattle.std.specs.List.{AllZip, IsDistinct}
 use Rattle.std.specs.Str.{bytes_eq}
 use Rattle.std.proofs.lemmas.Bool.{leb-false, lt-leb}
 use Rattle.std.proofs.lemmas.Slice.Zip.{AllZip-long}
-use Rattle.ranked_terms.specs.Names.{Symbol, names_of}
+use Rattle.ranked_terms.specs.Names.{names_of}
 use Rattle.ranked_terms.specs.declared.term.Shape.{Shape}
 use Rattle.trs_rules.specs.Rules.{RewriteRule, RewriteEquation}
-use Rattle.trs_rules.specs.declared.entry.Entry.{Entry}
-use Rattle.timbuk_grammar.specs.declared.terminal.Place.TheVariants as place
 use Rattle.timbuk_grammar.specs.declared.terminal.Terminal.TheVariants as terminal
 use Rattle.timbuk_grammar.specs.Grammar as grammar
 use Rattle.timbuk_grammar.specs.Trees.{Token, Value}
@@ -17,21 +15,21 @@ use Rattle.timbuk_reader.specs.Declarations.{Declared, Last, any, leaf, constant
 use Rattle.timbuk_reader.specs.Source.{RuleDeclaration, EquationDeclaration, text_of, rule_of, equation_of, automaton_of}
 use Rattle.timbuk_reader.specs.Naming.{IsShort, Names, shape_in, nesting_in}
 use Rattle.timbuk_reader.specs.SpecText.{IsRuleFrom, IsEquationFrom}
-use Rattle.timbuk_reader.specs.Rows.{row, passed}
+use Rattle.timbuk_reader.specs.Rows.{passed}
 use Rattle.timbuk_reader.specs.Reading.{Outcome, End}
 use Rattle.timbuk_reader.proofs.Labels.{Label, label, labelled, judge}
 use Rattle.timbuk_reader.proofs.TieLast.{IsQuiet, NotOpening, calm, calm_judge}
 use Rattle.timbuk_reader.proofs.TieSides as sides
 use Rattle.timbuk_reader.proofs.TieSides.{rule_names}
-use Rattle.timbuk_reader.proofs.TieRules.{RuleShape, RulesOnly, rules_only, rules_behind, rule_sides, rules_spelled}
-use Rattle.timbuk_reader.proofs.TieEquations.{EquationShape, EquationsOnly, equations_only, equations_behind, equation_sides, equations_spelled}
+use Rattle.timbuk_reader.proofs.TieRules.{RuleShape, rules_only, rules_behind, rule_sides, rules_spelled}
+use Rattle.timbuk_reader.proofs.TieEquations.{EquationShape, equations_only, equations_behind, equation_sides, equations_spelled}
 use Rattle.timbuk_reader.proofs.TieNamesRuns.{when-false, when_none, row_parts}
-use Rattle.timbuk_reader.proofs.TieNamesRows.{IsResting, row_at_rest, title_row, short_title, plain_row, misnamed_plain}
+use Rattle.timbuk_reader.proofs.TieNamesRows.{IsResting, row_at_rest, misnamed_plain}
 use Rattle.timbuk_reader.proofs.TieNamesStates.{between}
 use Rattle.timbuk_reader.proofs.TieNamesLeads.{Leads, leads-fine, leads-only}
 use Rattle.timbuk_reader.proofs.TieAutomatonStates.{put}
 use Rattle.timbuk_reader.proofs.TieAutomata.{IsAllowedAutomaton, started_by, next_automaton, last_of, last_of-resting, automaton_leads}
-use Rattle.timbuk_reader.proofs.TieApproximationSteps.{reads, Whatever, IsTied, one_token, free_token, in_turn}
+use Rattle.timbuk_reader.proofs.TieApproximationSteps.{reads, Whatever, IsTied, one_token, in_turn}
 use Rattle.timbuk_reader.proofs.TieApproximation.{closed, title_tied, rules_word_tied}
 
 -- ---- the words that begin sections

@@ -1,13 +1,11 @@
 -- A text is read without a fault exactly where it spells a specification, and that is what is read.
-use Rattle.std.proofs.Common.{◌≡◌, ℕ, List, [], ◌∷◌, Ok, refl, sym, ap, ◌∙◌}
-use Rattle.ta_core.specs.declared.spec.Spec.{Spec}
+use Rattle.std.proofs.Common.{ℕ, List, [], ◌∷◌, sym, ap, ◌∙◌}
 use Rattle.timbuk_lex.specs.Lexing.{lexed}
 use Rattle.timbuk_lex.specs.Places.{line_of, column_of}
 use Rattle.timbuk_grammar.specs.Grammar.{file}
 use Rattle.timbuk_reader.specs.Declarations.{nothing}
-use Rattle.timbuk_reader.specs.Laws.{IsRead, WhatIsReadIsSpelled, WhatIsSpelledIsRead}
+use Rattle.timbuk_reader.specs.Laws.{WhatIsReadIsSpelled, WhatIsSpelledIsRead}
 use Rattle.timbuk_reader.specs.Reading.{End, outcome}
-use Rattle.timbuk_reader.specs.SpecText.{SpecText}
 use Rattle.timbuk_reader.proofs.Labelled.{file_judge, file_read}
 use Rattle.timbuk_reader.proofs.TieSectionsFile.{file_fine, file_only}
 
