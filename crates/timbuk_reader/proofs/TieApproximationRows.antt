@@ -96,22 +96,22 @@ simple_kind terminal.CloseBracket s = (refl, refl, refl)
 simple_kind terminal.CloseEntries s = (refl, refl, refl)
 simple_kind _ s = cc
 
-plain_no_approximation : (t : Terminal) (d : Declared) (x : Lexeme) → is_simple t ≡ true → matches t x ≡ true → expected (Some t) d x ≡ false
-plain_no_approximation terminal.States d x s e = is_expected terminal.States d x refl refl e
-plain_no_approximation terminal.Rules d x s e = is_expected terminal.Rules d x refl refl e
-plain_no_approximation terminal.Colon d x s e = is_expected terminal.Colon d x refl refl e
-plain_no_approximation terminal.Zero d x s e = is_expected terminal.Zero d x refl refl e
-plain_no_approximation terminal.Arrow d x s e = is_expected terminal.Arrow d x refl refl e
-plain_no_approximation terminal.OpenBracket d x s e = is_expected terminal.OpenBracket d x refl refl e
-plain_no_approximation terminal.CloseBracket d x s e = is_expected terminal.CloseBracket d x refl refl e
-plain_no_approximation terminal.CloseEntries d x s e = is_expected terminal.CloseEntries d x refl refl e
-plain_no_approximation _ d x s e = cc
+simple_expected : (t : Terminal) (d : Declared) (x : Lexeme) → is_simple t ≡ true → matches t x ≡ true → expected (Some t) d x ≡ false
+simple_expected terminal.States d x s e = is_expected terminal.States d x refl refl e
+simple_expected terminal.Rules d x s e = is_expected terminal.Rules d x refl refl e
+simple_expected terminal.Colon d x s e = is_expected terminal.Colon d x refl refl e
+simple_expected terminal.Zero d x s e = is_expected terminal.Zero d x refl refl e
+simple_expected terminal.Arrow d x s e = is_expected terminal.Arrow d x refl refl e
+simple_expected terminal.OpenBracket d x s e = is_expected terminal.OpenBracket d x refl refl e
+simple_expected terminal.CloseBracket d x s e = is_expected terminal.CloseBracket d x refl refl e
+simple_expected terminal.CloseEntries d x s e = is_expected terminal.CloseEntries d x refl refl e
+simple_expected _ d x s e = cc
 
 pub simple_row : (t : Terminal) (d : Declared) (x : Lexeme) → IsQuiet d.last → is_simple t ≡ true → matches t x ≡ true → row (Some t) d x ≡ None
 simple_row t d x q s e =
     let a = simple_apart t x s e in
     let k = simple_kind t s in
-    row-none t d x e (arity_right d x q a.0 a.1 a.2) (plain_no_approximation t d x s e) (passed_plain t x.text d k.0) (misnamed_plain t x.text d k.2)
+    row-none t d x e (arity_right d x q a.0 a.1 a.2) (simple_expected t d x s e) (passed_plain t x.text d k.0) (misnamed_plain t x.text d k.2)
 
 -- after a symbol of an arity above 0 no such token may stand
 pub no_simple_row : (t : Terminal) (d : Declared) (x : Lexeme) → d.last ≡ function → is_simple t ≡ true → matches t x ≡ true → row (Some t) d x ≡ None → ⊥

@@ -1,5 +1,5 @@
 -- What tokens declare, told exactly: where they may stand, the judge goes on from the state behind them, and it comes to the end nowhere else.
-use Rattle.std.proofs.Common.{◌≡◌, List, [], ◌∷◌, ◌++◌, None, Some, Ok, refl, sym, ap, subst, ◌∙◌, append_assoc}
+use Rattle.std.proofs.Common.{◌≡◌, List, [], ◌∷◌, ◌++◌, None, Some, Ok, refl, sym, ap, ◌∙◌, append_assoc}
 use Rattle.std.specs.Prelude.{Option}
 use Rattle.timbuk_lex.specs.declared.lexeme.Lexeme.{Lexeme}
 use Rattle.timbuk_grammar.specs.declared.terminal.Terminal.{Terminal}
@@ -53,7 +53,7 @@ module _ {end : End} where
     only = λ rest e k h. absurd (f (unless_ok (row (Some t) d v.lexeme) v.lexeme (judge end (adds t v.lexeme.text d) (xs ++ rest)) e h).0);
   }
 
-  -- tokens behind tokens that want of them no more than K
+  -- tokens behind others, which ask of what follows them that it meets J
   pub in_turn_at : {K J : List Label → Type 0} {d : Declared} {xs ys : List Label} {W : Type 0} {told : W → Declared} {V : W → Type 0} {then_told : (w : W) → V w → Declared}
       → ((rest : List Label) → K rest → J (ys ++ rest)) → IsTied end J d xs W told → ((w : W) → IsTied end K (told w) ys (V w) (then_told w))
       → IsTied end K d (xs ++ ys) ((w : W) × V w) (λ p. then_told p.0 p.1)
@@ -70,10 +70,6 @@ module _ {end : End} where
       → IsTied end Whatever d xs W told → ((w : W) → IsTied end K (told w) ys (V w) (then_told w)) → IsTied end K d (xs ++ ys) ((w : W) × V w) (λ p. then_told p.0 p.1)
   in_turn first second = in_turn_at {J = Whatever} (λ rest k. tt) first second
 
-  -- whatever follows, so also what meets K
-  pub anywhere : {K : List Label → Type 0} {d : Declared} {xs : List Label} {W : Type 0} {told : W → Declared} → IsTied end Whatever d xs W told → IsTied end K d xs W told
-  anywhere tied = record { fine = λ w rest k. tied.fine w rest tt; only = λ rest e k h. tied.only rest e tt h }
-
   -- the same by another witness
   pub by_witness : {K : List Label → Type 0} {d : Declared} {xs : List Label} {W V : Type 0} {told : W → Declared} {told_by : V → Declared}
       → IsTied end K d xs W told → (f : V → W) → (g : W → V) → ((v : V) → told (f v) ≡ told_by v) → ((w : W) → told w ≡ told_by (g w)) → IsTied end K d xs V told_by
@@ -81,7 +77,3 @@ module _ {end : End} where
     fine = λ v rest k. tied.fine (f v) rest k ∙ ap (λ s. reads end s rest) (same v);
     only = λ rest e k h. let a = tied.only rest e k h in (g a.0, sym (ap (λ s. reads end s rest) (alike a.0)) ∙ a.1);
   }
-
-  -- the same from an equal state
-  pub from_state : {K : List Label → Type 0} {c d : Declared} {xs : List Label} {W : Type 0} {told : W → Declared} → c ≡ d → IsTied end K c xs W told → IsTied end K d xs W told
-  from_state {K = K} {xs = xs} {W = W} {told = told} e tied = subst (λ s. IsTied end K s xs W told) e tied
