@@ -8,3 +8,6 @@ mod token;
 pub use fault::{LimitName, SpecFault, SpecKind};
 pub use laws::{faults_are_first, no_text_has_two_specs, texts_are_read};
 pub use token::{Token, TokenError, tokens};
+
+#[cfg(test)]
+mod tests;
