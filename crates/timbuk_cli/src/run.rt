@@ -7,13 +7,14 @@ ghost use Rattle.timbuk_cli.specs.Words.{file_of};
 ghost use Rattle.timbuk_cli.specs.Output.{SettlesItself, line, Decides, Judges, Says, Ran, Answers};
 
 use crate::closure::is_closed;
+use crate::fault_line::fault_line;
 use crate::missing::have_no_common_term;
-use crate::reader::{SpecError, read_spec};
 use crate::status::Status;
 use crate::words::file_word;
 use std::alloc::{AllocError, Global};
 use ta_core::Spec;
 use tim_io::{ReadError, Shelf, Sink, read_all, write_all};
+use timbuk_reader::{SpecError, read_spec};
 
 /// The largest number of bytes of a specification.
 const MAX_SPEC: usize = 1048576;
@@ -48,28 +49,30 @@ fn verdict(alloc: Global, spec: &Spec) -> Result<Status, AllocError>
     }
 }
 
-/// The verdict on the bytes of a file. The only error is want of memory.
-fn judge(alloc: Global, bytes: &[u8]) -> Result<Status, AllocError>
-    requires { length bytes.now ≤ 1048576 }
-    ensures { IfOk result (Judges bytes.now) }
-{
-    match read_spec(alloc, bytes) {
-        Ok(spec) => verdict(alloc, &spec),
-        Err(SpecError::Unread) => Ok(Status::BadSpec),
-        Err(SpecError::Memory) => Err(AllocError),
-    }
-}
-
-/// The line for the verdict on a file.
+/// The line for a verdict.
 fn verdict_line(verdict: Status) -> &'static str
     ensures unreachable { verdict ≡ Status.Unreachable → result.now ≡ line (codes "Verdict unreachable") }
-    ensures undecided { verdict ≡ Status.Undecided → result.now ≡ line (codes "Verdict undecided") }
-    ensures bad_spec { verdict ≡ Status.BadSpec → result.now ≡ line (codes "Bad specification") }
+    ensures undecided { verdict ≢ Status.Unreachable → result.now ≡ line (codes "Verdict undecided") }
 {
     match verdict {
         Status::Unreachable => "Verdict unreachable\n",
-        Status::Undecided => "Verdict undecided\n",
-        _ => "Bad specification\n",
+        _ => "Verdict undecided\n",
+    }
+}
+
+/// What is said of the bytes of a file: the verdict on the specification that they spell, or their first fault. The only
+/// error is want of memory.
+fn judge(alloc: Global, bytes: &[u8]) -> Result<(Status, String), AllocError>
+    requires { length bytes.now ≤ 1048576 }
+    ensures { IfOk result (λ a. Judges bytes.now (string_bytes a.1) a.0) }
+{
+    match read_spec(alloc, bytes) {
+        Ok(spec) => {
+            let verdict = verdict(alloc, &spec)?;
+            Ok((verdict, String::from_str(alloc, verdict_line(verdict))?))
+        }
+        Err(SpecError::Fault(fault)) => Ok((Status::BadSpec, fault_line(alloc, fault)?)),
+        Err(SpecError::Memory) => Err(AllocError),
     }
 }
 
@@ -102,8 +105,7 @@ fn answer<F: Shelf>(
         Err(ReadError::TooLong) => return refusal(alloc, Status::TooLong, "Too long", name),
         Err(ReadError::Memory) => return Err(AllocError),
     };
-    let verdict = judge(alloc, bytes.as_slice())?;
-    Ok((verdict, String::from_str(alloc, verdict_line(verdict))?))
+    judge(alloc, bytes.as_slice())
 }
 
 /// Does what the words say, over the files of the shelf, and writes what there is to say to the sink.
