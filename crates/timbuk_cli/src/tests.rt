@@ -309,7 +309,7 @@ fn runs_over_objects_in_memory(rt: HostRuntime) -> Result<(), Fail> {
 #[test]
 fn a_long_file_is_read_one_byte_past_the_limit(rt: HostRuntime) -> Result<(), Fail> {
     let mut file = Vec::from_slice(rt.alloc(), EVEN)?;
-    while file.len() < 1048580 {
+    for _ in EVEN.len()..1048580 {
         file.push(b' ')?;
     }
     let mut shelf = MemShelf::new(rt.alloc(), 65536, Seq::new(rt.alloc()));
