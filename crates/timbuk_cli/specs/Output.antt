@@ -47,14 +47,14 @@ pub record IsUnsettled (bytes : List ℕ) : Type 0 where
 abbrev pub IsNoSpec : List ℕ → Type 0
 IsNoSpec bytes = (spec : Spec) → SpecText bytes spec → ⊥
 
--- the status of a specification
-abbrev pub Decides : Spec → Status → Type 0
-Decides spec Unreachable = SettlesItself spec
-Decides spec Undecided = SettlesItself spec → ⊥
-Decides spec _ = ⊥
-
 abbrev pub line : Text → Text
 line text = text ++ 10 ∷ []
+
+-- the text and the status of a specification
+abbrev pub Decides : Spec → Text → Status → Type 0
+Decides spec text Unreachable = SettlesItself spec × (text ≡ line (codes "Verdict unreachable"))
+Decides spec text Undecided = (SettlesItself spec → ⊥) × (text ≡ line (codes "Verdict undecided"))
+Decides spec text _ = ⊥
 
 -- the bytes are no specification, and this is the line for their first fault
 pub record IsFaulty (bytes : List ℕ) (text : Text) : Type 0 where

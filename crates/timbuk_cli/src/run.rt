@@ -34,29 +34,20 @@ fn settles_itself(alloc: Global, spec: &Spec) -> Result<bool, AllocError>
     is_closed(alloc, &spec.initial, spec.rules.as_slice())
 }
 
-/// The verdict on a specification: `Unreachable` exactly where its initial automaton is closed under its rules and accepts
-/// no forbidden term, and else `Undecided`. The only error is want of memory.
-fn verdict(alloc: Global, spec: &Spec) -> Result<Status, AllocError>
-    ensures exact { IfOk result (Decides spec.now) }
+/// The verdict on a specification, with its line: `Unreachable` exactly where its initial automaton is closed under its
+/// rules and accepts no forbidden term, and else `Undecided`. The only error is want of memory.
+fn verdict(alloc: Global, spec: &Spec) -> Result<(Status, String), AllocError>
+    ensures exact { IfOk result (λ a. Decides spec.now (string_bytes a.1) a.0) }
     ensures sound { IsSound spec.now.initial }
 {
     // Its contract says what holds of every automaton.
     let _ = spec.initial.states();
     if settles_itself(alloc, spec)? {
-        Ok(Status::Unreachable)
+        let line = String::from_str(alloc, "Verdict unreachable\n")?;
+        Ok((Status::Unreachable, line))
     } else {
-        Ok(Status::Undecided)
-    }
-}
-
-/// The line for a verdict.
-fn verdict_line(verdict: Status) -> &'static str
-    ensures unreachable { verdict ≡ Status.Unreachable → result.now ≡ line (codes "Verdict unreachable") }
-    ensures undecided { verdict ≢ Status.Unreachable → result.now ≡ line (codes "Verdict undecided") }
-{
-    match verdict {
-        Status::Unreachable => "Verdict unreachable\n",
-        _ => "Verdict undecided\n",
+        let line = String::from_str(alloc, "Verdict undecided\n")?;
+        Ok((Status::Undecided, line))
     }
 }
 
@@ -67,10 +58,7 @@ fn judge(alloc: Global, bytes: &[u8]) -> Result<(Status, String), AllocError>
     ensures { IfOk result (λ a. Judges bytes.now (string_bytes a.1) a.0) }
 {
     match read_spec(alloc, bytes) {
-        Ok(spec) => {
-            let verdict = verdict(alloc, &spec)?;
-            Ok((verdict, String::from_str(alloc, verdict_line(verdict))?))
-        }
+        Ok(spec) => verdict(alloc, &spec),
         Err(SpecError::Fault(fault)) => Ok((Status::BadSpec, fault_line(alloc, fault)?)),
         Err(SpecError::Memory) => Err(AllocError),
     }
