@@ -10,3 +10,6 @@ pub use fault::{LimitName, SpecError, SpecFault, SpecKind};
 pub use laws::faults_are_first;
 pub use reader::read_spec;
 pub use token::{Token, TokenError, tokens};
+
+#[cfg(test)]
+mod tests;
