@@ -17,7 +17,7 @@ use Rattle.timbuk_reader.specs.Source.{RuleDeclaration, EquationDeclaration, Arr
 use Rattle.timbuk_reader.specs.Naming.{Names, place_in, transitions_in, moves_in, node_shape, stands_for}
 use Rattle.timbuk_reader.specs.SpecText.{IsRuleFrom, IsEquationFrom, IsEntryFrom, IsAutomatonFrom, IsForbiddenFrom, Spells, SpecText, systems_in, equations_in, all_of, extra_states, entries_of, approximation_rules}
 use Rattle.timbuk_reader.proofs.OneSpecSets.{same_set}
-use Rattle.timbuk_reader.proofs.OneSpecShapes.{same_pattern}
+use Rattle.timbuk_reader.proofs.TieShapes.{shape_of-injective}
 use Rattle.timbuk_reader.proofs.OneSpecParts.{same_spec}
 
 -- ---- lists
@@ -35,15 +35,15 @@ same_zip R one (x ∷ xs) (y ∷ ys) (z ∷ zs) h k = λ i. one x y z h.0 k.0 i 
 
 same_rule : (names : Names) (d : RuleDeclaration) (r s : RewriteRule) → IsRuleFrom names d r → IsRuleFrom names d s → r ≡ s
 same_rule names d r s h k =
-    let left = same_pattern r.left s.left (same_Some _ _ (sym h.left ∙ k.left)) in
-    let right = same_pattern r.right s.right (same_Some _ _ (sym h.right ∙ k.right)) in
+    let left = shape_of-injective r.left s.left (same_Some _ _ (sym h.left ∙ k.left)) in
+    let right = shape_of-injective r.right s.right (same_Some _ _ (sym h.right ∙ k.right)) in
     let vars = h.is_rule.vars_are ∙ (ap variables_of left ∙ sym k.is_rule.vars_are) in
     λ i. record { left = left i; right = right i; vars = vars i }
 
 same_equation : (names : Names) (d : EquationDeclaration) (r s : RewriteEquation) → IsEquationFrom names d r → IsEquationFrom names d s → r ≡ s
 same_equation names d r s h k =
-    let left = same_pattern r.left s.left (same_Some _ _ (sym h.left ∙ k.left)) in
-    let right = same_pattern r.right s.right (same_Some _ _ (sym h.right ∙ k.right)) in
+    let left = shape_of-injective r.left s.left (same_Some _ _ (sym h.left ∙ k.left)) in
+    let right = shape_of-injective r.right s.right (same_Some _ _ (sym h.right ∙ k.right)) in
     let vars = h.is_equation.vars_are ∙ ((λ i. firsts (occurrences (left i) ++ occurrences (right i))) ∙ sym k.is_equation.vars_are) in
     λ i. record { left = left i; right = right i; vars = vars i }
 

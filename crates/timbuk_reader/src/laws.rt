@@ -1,5 +1,17 @@
 //! Laws of input texts. Each function does nothing: its contract is the law.
-ghost use Rattle.timbuk_reader.specs.Laws.{FaultsAreFirst};
+ghost use Rattle.timbuk_reader.specs.Laws.{WhatIsReadIsSpelled, WhatIsSpelledIsRead, OneSpec, FaultsAreFirst};
+
+/// No row of the table of faults fits a text anywhere exactly where the text spells a specification, and this is what is
+/// read in it.
+pub fn texts_are_read()
+    ensures read { WhatIsReadIsSpelled }
+    ensures spelled { WhatIsSpelledIsRead }
+{}
+
+/// No text spells two specifications.
+pub fn no_text_has_two_specs()
+    ensures { OneSpec }
+{}
 
 /// The fault that reading meets is that of the first place at which a row of the table of faults fits. So each text has at
 /// most one first fault.

@@ -3,12 +3,10 @@
 
 mod fault;
 mod laws;
-mod reader;
 mod token;
 
-pub use fault::{LimitName, SpecError, SpecFault, SpecKind};
-pub use laws::faults_are_first;
-pub use reader::read_spec;
+pub use fault::{LimitName, SpecFault, SpecKind};
+pub use laws::{faults_are_first, no_text_has_two_specs, texts_are_read};
 pub use token::{Token, TokenError, tokens};
 
 #[cfg(test)]
