@@ -6,3 +6,8 @@ pub mod ReaderTokens
 pub mod StepsNames
 pub mod ReaderFresh
 pub mod StepsLast
+pub mod ReaderMeanings
+pub mod StepsPatterns
+pub mod ReaderPatterns
+pub mod ReaderArguments
+pub mod ReaderFits
