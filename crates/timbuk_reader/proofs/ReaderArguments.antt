@@ -9,6 +9,7 @@ use Rattle.timbuk_lex.specs.declared.lexeme.Lexeme.{Lexeme}
 use Rattle.timbuk_lex.specs.declared.lex.Ending.{Ending}
 use Rattle.timbuk_lex.specs.declared.lex.Ending.TheVariants.{Whole, Stopped}
 use Rattle.timbuk_grammar.specs.declared.terminal.Place.{Place}
+use Rattle.timbuk_grammar.specs.declared.terminal.Terminal.{Terminal}
 use Rattle.timbuk_grammar.specs.declared.terminal.Terminal.TheVariants as terminal
 use Rattle.timbuk_grammar.specs.Matching.{matches}
 use Rattle.timbuk_grammar.specs.Grammar.{Part, one, many, ◌then◌, pattern, pattern_arguments}
@@ -21,7 +22,7 @@ use Rattle.timbuk_reader.specs.declared.state.Reader.{Reader}
 use Rattle.timbuk_reader.specs.Declarations.{Declared, Application, any, function, placed, closes, adds}
 use Rattle.timbuk_reader.specs.Rows.{wrong_arity, wrong_count, passed, misnamed, end_row}
 use Rattle.timbuk_reader.specs.Reading.{End, outcome, ends_by}
-use Rattle.timbuk_reader.specs.View.{Open, declared, inside, state_of, end_of, settled, from, as_error, sees, refusal_at, end_fault, refusal}
+use Rattle.timbuk_reader.specs.View.{Open, Shorter, declared, inside, state_of, end_of, settled, from, as_error, sees, refusal_at, end_fault, refusal}
 use Rattle.timbuk_reader.specs.Reads.{Took, Missed}
 use Rattle.timbuk_reader.specs.Patterns.{application, within, IsFirstSide, IsSpot, applied_from, filled_from, placed_from, behind, Builds, Breaks, Applies, Misapplies, Filled, LacksArguments, LacksArgument, too_few, no_comma, LacksEnd, too_many, no_end}
 use Rattle.timbuk_reader.proofs.Steps.{alike, both_alike, one_front, then_head, maybe_take, many_take, many_skip, choice_unseen}
@@ -137,7 +138,7 @@ module _ (p : Place) (f n : ℕ) (args : List Shape) (applications : List Applic
 
 -- ---- arguments so far
 
-took_run : (t : _) (r m : Reader) (o : Open) (ps : List Part) → (k : Took t r m) → outcome (end_of r) ps (declared o r) r.tokens.now ≡ outcome (end_of m) ps (declared o m) (k.token ∷ m.tokens.now)
+took_run : (t : Terminal) (r m : Reader) (o : Open) (ps : List Part) → (k : Took t r m) → outcome (end_of r) ps (declared o r) r.tokens.now ≡ outcome (end_of m) ps (declared o m) (k.token ∷ m.tokens.now)
 took_run t r m o ps k = λ i. outcome (sym k.end i) ps (sym (declared_same o r m k.state) i) (k.tokens i)
 
 module _ (p : Place) (f n d : ℕ) where
@@ -206,3 +207,7 @@ module _ (p : Place) (f n d : ℕ) where
       ap as_error (g.by ps applications shapes l first) ∙ ap (λ z. as_error (settled z)) (late_comma p f n args applications shapes m (behind p ∷ ps) (end_of m) m.tokens.now full seen) ∙ ap Err (sym told) }
   lacks_last r m args e g full (no_end unseen k) = record { by = λ ne ps applications shapes l first.
       ap as_error (g.by ps applications shapes l first) ∙ ap (λ z. as_error (settled z)) (other_mark p f n args applications shapes m ps (end_of m) m.tokens.now k.unseen unseen) ∙ ap Err (sym k.told) }
+
+-- a token fewer is left
+pub took_less : (t : Terminal) (r m : Reader) → Took t r m → Shorter r m
+took_less t r m k = let e = ap length k.tokens in omega arith

@@ -1,6 +1,6 @@
 -- What is known of a shape that was read.
-use Rattle.std.proofs.Common.{◌≡◌, ℕ, zero, suc, ◌+◌, ◌<◌, length, Bool, true, false, ◌&&◌, ◌==◌, IsTrue, List, [], ◌∷◌, ◌++◌, map, Some, refl, ap, sym, ◌∙◌, subst, arith, append_assoc}
-use Rattle.std.specs.Prelude.{nat_lt}
+use Rattle.std.proofs.Common.{◌≡◌, ℕ, zero, suc, ◌+◌, ◌<◌, length, Bool, true, false, ◌&&◌, ◌==◌, IsTrue, List, [], ◌∷◌, ◌++◌, map, Option, Some, None, cond, refl, ap, sym, ◌∙◌, subst, arith, append_assoc}
+use Rattle.std.specs.Prelude.{nat_lt, not}
 use Rattle.std.specs.List.{list_all}
 use Rattle.std.proofs.lemmas.Bool.{and_parts, and_from}
 use Rattle.std.proofs.lemmas.List.{length-map, append-nil, map-append}
@@ -15,9 +15,12 @@ use Rattle.ta_core.specs.SpecRules.{shape_is_over, shape_is_over_step, shape_is_
 use Rattle.timbuk_grammar.specs.declared.terminal.Place.{Place}
 use Rattle.timbuk_grammar.specs.declared.terminal.Place.TheVariants as place
 use Rattle.timbuk_reader.specs.declared.state.Reader.{Reader}
-use Rattle.timbuk_reader.specs.Declarations.{Declared, with_variable}
+use Rattle.timbuk_reader.specs.declared.fault.SpecKind.{SpecKind}
+use Rattle.timbuk_reader.specs.declared.fault.SpecKind.TheVariants as kind
+use Rattle.timbuk_reader.specs.Declarations.{Declared, a_variable, has, with_variable, states_at}
+use Rattle.timbuk_reader.specs.Rows.{or, when}
 use Rattle.timbuk_reader.specs.View.{state_of, end_of}
-use Rattle.timbuk_reader.specs.Patterns.{MayStand, Binds, SameBut, state_count, Fits, AllFit}
+use Rattle.timbuk_reader.specs.Patterns.{IsPatternPlace, pattern_fault, misuse, MayStand, Binds, SameBut, state_count, Fits, AllFit}
 
 -- ---- shapes
 
@@ -132,3 +135,36 @@ module _ (p : Place) (r : Reader) where
         binds = subst (λ z. Binds p r.bound z v.bound) (sym (occurs_app f args)) (subst (λ z. Binds p z (joined (map shape_occurrences args)) v.bound) bound h.binds);
         same = same_then r u v at_u h.same;
       }
+
+-- ---- what the rows tell
+
+second_none : {A : Type 0} (o u : Option A) → or o u ≡ None → (o ≡ None) × (u ≡ None)
+second_none None u e = (refl, e)
+second_none (Some a) u e = cc
+
+not_when : {A : Type 0} (b : Bool) (a : A) → when b a ≡ None → b ≡ false
+not_when true a e = cc
+not_when false a e = refl
+
+left_new : (first : Bool) (b : Bool) → cond first (Some kind.VariableLeft) (when b kind.NotLeftLinear) ≡ None → b ≡ false
+left_new true b e = cc
+left_new false b e = not_when b kind.NotLeftLinear e
+
+not_false : (b : Bool) → not b ≡ false → b ≡ true
+not_false true e = refl
+not_false false e = cc
+
+-- a variable that no row refuses may stand there
+pub may_stand : (p : Place) (v depth : ℕ) (r : Reader) → pattern_fault p (a_variable v) depth r ≡ None → MayStand p r.bound v
+may_stand place.LeftSide v depth r e = left_new (depth == 0) (has r.bound v) (second_none _ (misuse place.LeftSide (a_variable v) depth r.bound) e).1
+may_stand place.RightSide v depth r e = not_false (has r.bound v) (not_when (not (has r.bound v)) kind.FreeVariable (second_none _ (misuse place.RightSide (a_variable v) depth r.bound) e).1)
+may_stand _ v depth r e = tt
+
+-- a state that may stand there is one of the initial automaton or of the approximation
+pub counted : (p : Place) (r : Reader) (q : ℕ) → IsPatternPlace p → q < length (states_at (state_of r) p) → q < state_count p r
+counted place.EntryWhole r q h b = b
+counted place.LeftSide r q h b = b
+counted place.RightSide r q h b = b
+counted place.EquationLeft r q h b = b
+counted place.EquationRight r q h b = b
+counted _ r q h b = absurd h
