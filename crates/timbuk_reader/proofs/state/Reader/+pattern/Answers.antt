@@ -41,7 +41,7 @@ arguments-loop-place-init t c =
       some = let e = ap length items in omega arith;
       shorter = omega arith;
       filled = rw items (first_builds c.args.place c.args.sym c.args.arity c.args.depth c.requires.some r m u shape k c.in_ok-pattern.ensures.reads);
-      fits = rw items (fits_more c.args.place r r m u [] shape (fits_none c.args.place r r refl (same_now r r refl refl)) k.state k.end c.in_ok-pattern.ensures.fits);
+      fits = rw items (fits_more c.args.place r r m u [] shape (fits_none c.args.place r r refl (same_now r r refl refl)) k.state k.bound k.end c.in_ok-pattern.ensures.fits);
     }
 
 pub arguments-returns-in_err-next_argument-clause-reads : goal.arguments-returns-in_err-next_argument-clause-reads
@@ -76,7 +76,7 @@ arguments-loop-place-preserved t c =
       some = omega arith;
       shorter = omega arith;
       filled = rw items (next_builds c.args.place c.args.sym c.args.arity c.args.depth r m v u c.loop-place.args shape before.filled (omega arith) k c.in_ok-pattern-2.ensures.reads);
-      fits = rw items (fits_more c.args.place r m v u c.loop-place.args shape before.fits k.state k.end c.in_ok-pattern-2.ensures.fits);
+      fits = rw items (fits_more c.args.place r m v u c.loop-place.args shape before.fits k.state k.bound k.end c.in_ok-pattern-2.ensures.fits);
     }
 
 pub arguments-returns-in_err-last_argument-clause-reads : goal.arguments-returns-in_err-last_argument-clause-reads
@@ -100,7 +100,7 @@ pattern-returns-in_err-args-in-Symbol-clause-reads t c =
     let head : HasHead c.args.place c.args.depth r (a_symbol c.in-Symbol.sym c.in-Symbol.arity) = subst (λ z. HasHead c.args.place c.args.depth r (meant_by z)) c.in-Symbol.is c.in_ok-pattern_head.ensures.ok in
     let breaks : Breaks c.args.place c.args.depth r e =
         function_breaks c.args.place c.requires.place r u c.args.depth head.text head.stands c.advance.result.now c.advance.ensures.token (same_now r u c.advance.ensures.state c.advance.ensures.end)
-          (ap (λ (d : Declared). d.bound) c.advance.ensures.state) c.in-Symbol.sym c.in-Symbol.arity e (omega arith) head.means head.fits c.in_err-args-in-Symbol.ensures.reads in
+          c.advance.ensures.bound c.in-Symbol.sym c.in-Symbol.arity e (omega arith) head.means head.fits c.in_err-args-in-Symbol.ensures.reads in
     grind (arith, common_steps)
 
 pub pattern-returns-in_ok-args-in-Symbol-clause-reads : goal.pattern-returns-in_ok-args-in-Symbol-clause-reads
@@ -109,7 +109,7 @@ pattern-returns-in_ok-args-in-Symbol-clause-reads t c =
     let u = c.advance.new.self in
     let head : HasHead c.args.place c.args.depth r (a_symbol c.in-Symbol.sym c.in-Symbol.arity) = subst (λ z. HasHead c.args.place c.args.depth r (meant_by z)) c.in-Symbol.is c.in_ok-pattern_head.ensures.ok in
     function_builds c.args.place c.requires.place r u c.args.depth head.text head.stands c.advance.result.now c.advance.ensures.token (same_now r u c.advance.ensures.state c.advance.ensures.end)
-      (ap (λ (d : Declared). d.bound) c.advance.ensures.state) c.in-Symbol.sym c.in-Symbol.arity c.in_ok-args-in-Symbol.args c.arguments.new.self (omega arith) head.means head.fits c.in_ok-args-in-Symbol.ensures.reads
+      c.advance.ensures.bound c.in-Symbol.sym c.in-Symbol.arity c.in_ok-args-in-Symbol.args c.arguments.new.self (omega arith) head.means head.fits c.in_ok-args-in-Symbol.ensures.reads
 
 pub pattern-returns-in_ok-args-in-Symbol-clause-fits : goal.pattern-returns-in_ok-args-in-Symbol-clause-fits
 pattern-returns-in_ok-args-in-Symbol-clause-fits t c =
@@ -117,4 +117,4 @@ pattern-returns-in_ok-args-in-Symbol-clause-fits t c =
     let u = c.advance.new.self in
     let head : HasHead c.args.place c.args.depth r (a_symbol c.in-Symbol.sym c.in-Symbol.arity) = subst (λ z. HasHead c.args.place c.args.depth r (meant_by z)) c.in-Symbol.is c.in_ok-pattern_head.ensures.ok in
     fits_application c.args.place r u c.arguments.new.self c.in-Symbol.sym c.in-Symbol.arity c.in_ok-args-in-Symbol.args
-      (symbol_arity (state_of r) c.args.place head.text c.in-Symbol.sym c.in-Symbol.arity head.means) c.in_ok-args-in-Symbol.ensures.count c.advance.ensures.state c.advance.ensures.end c.in_ok-args-in-Symbol.ensures.fits
+      (symbol_arity (state_of r) c.args.place head.text c.in-Symbol.sym c.in-Symbol.arity head.means) c.in_ok-args-in-Symbol.ensures.count c.advance.ensures.state c.advance.ensures.bound c.advance.ensures.end c.in_ok-args-in-Symbol.ensures.fits
