@@ -11,3 +11,5 @@ pub mod StepsPatterns
 pub mod ReaderPatterns
 pub mod ReaderArguments
 pub mod ReaderFits
+pub mod ReaderSides
+pub mod ReaderRules

@@ -114,7 +114,7 @@ module _ (r : Reader) (depth : ℕ) (applications : List Application) (shapes : 
   -- the rows of a short name, by what it means
   use_is : (p : Place) (text : Text) → IsPatternPlace p → nat_lt 255 (length text) ≡ false
       → use_row (terminal.Named p) text D ≡ or (option_map kind.Limit (or (too_deep (meaning D p text) D) (or (one_too_many (meaning D p text) D) (over (terminal.Named p) [] D))))
-        (or (when (is_unknown (meaning D p text)) kind.UnknownName) (or (when (variable_left (terminal.Named p) (meaning D p text) D) kind.VariableLeft) (or (when (stands_twice (terminal.Named p) (meaning D p text) D) kind.NotLeftLinear) (when (is_free (terminal.Named p) (meaning D p text) D) kind.FreeVariable))))
+      (or (when (is_unknown (meaning D p text)) kind.UnknownName) (or (when (variable_left (terminal.Named p) (meaning D p text) D) kind.VariableLeft) (or (when (stands_twice (terminal.Named p) (meaning D p text) D) kind.NotLeftLinear) (when (is_free (terminal.Named p) (meaning D p text) D) kind.FreeVariable))))
   unfolding passed misnamed
   use_is place.LeftSide text h e = rw e refl
   use_is place.RightSide text h e = rw e refl
@@ -129,7 +129,7 @@ module _ (r : Reader) (depth : ℕ) (applications : List Application) (shapes : 
       let few : nat_lt 255 (length text) ≡ false = grind (arith, nat_tests) in
       use_is p text h few
       ∙ (λ i. let n = (meaning_is p text h ∙ is) i in or (option_map kind.Limit (or (too_deep n D) (or (one_too_many n D) (over (terminal.Named p) [] D))))
-        (or (when (is_unknown n) kind.UnknownName) (or (when (variable_left (terminal.Named p) n D) kind.VariableLeft) (or (when (stands_twice (terminal.Named p) n D) kind.NotLeftLinear) (when (is_free (terminal.Named p) n D) kind.FreeVariable)))))
+      (or (when (is_unknown n) kind.UnknownName) (or (when (variable_left (terminal.Named p) n D) kind.VariableLeft) (or (when (stands_twice (terminal.Named p) n D) kind.NotLeftLinear) (when (is_free (terminal.Named p) n D) kind.FreeVariable)))))
       ∙ (λ i. or (option_map kind.Limit ((ap (λ s. or (too_deep m D) (or (one_too_many m D) s)) (over_is p h first) ∙ limit_is m (side_limit p depth (length r.rules) (length r.equations))) i)) (misuse_is p m h first i))
 
 -- ---- a name as a token

@@ -107,7 +107,7 @@ not_closed terminal.Quoted x e = open_text x.kind _ e
 
 -- ---- and only the word `Approximation` begins an approximation
 
-abbrev IsOther : Terminal → Type 0
+abbrev pub IsOther : Terminal → Type 0
 IsOther terminal.Approximation = ⊥
 IsOther _ = Unit {0}
 
@@ -241,7 +241,7 @@ pub calm_arity : (d : Declared) (x : Lexeme) → d.applications ≡ [] → d.las
 unfolding wrong_arity
 calm_arity d x e f = rw (e, f) refl
 
-calm_quiet : (d : Declared) (x : Lexeme) → d.applications ≡ [] → d.last ≡ any → Quiet d x
+pub calm_quiet : (d : Declared) (x : Lexeme) → d.applications ≡ [] → d.last ≡ any → Quiet d x
 calm_quiet d x e f = record { arity = calm_arity d x e f; leaf = rw f refl }
 
 -- what is open makes no difference to the reader's state

@@ -8,7 +8,9 @@ mod laws;
 mod meaning;
 mod names;
 mod pattern;
+mod rules;
 mod state;
+mod stubs;
 mod symbols;
 
 pub use fault::{LimitName, SpecError, SpecFault, SpecKind};
