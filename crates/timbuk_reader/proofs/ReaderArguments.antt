@@ -1,4 +1,5 @@
 -- Reading the arguments of a pattern, one step at a time.
+use Rattle.std.proofs.Math.Bool.{and-false}
 use Rattle.std.proofs.Common.{◌≡◌, ◌≢◌, ℕ, zero, suc, ◌+◌, ◌<◌, ◌≤◌, length, arith, Bool, true, false, not, ◌&&◌, ◌||◌, List, [], ◌∷◌, ◌++◌, Some, None, Ok, Err, refl, ap, sym, ◌∙◌, subst, length-append}
 use Rattle.std.specs.Prelude.{nat_lt, nat_le}
 use Rattle.std.specs.List.{list_all}
@@ -29,10 +30,6 @@ use Rattle.timbuk_reader.proofs.Steps.{alike, both_alike, one_front, then_head, 
 use Rattle.timbuk_reader.proofs.StepsTokens.{use_row, Quiet, row_other, step_on, step_wrong, step_missed, step_unexpected, step_end, mark_row, mark_adds, declared_same}
 use Rattle.timbuk_reader.proofs.StepsLast.{placed_after}
 use Rattle.timbuk_reader.proofs.ReaderPatterns.{argument_list}
-
-and_no : (b : Bool) → (b && false) ≡ false
-and_no true = refl
-and_no false = refl
 
 -- ---- one mark
 
@@ -103,7 +100,7 @@ module _ (p : Place) (f n : ℕ) (args : List Shape) (applications : List Applic
 
   function_end : (ending : Ending) (ps : List Part) (end : End) → ends_by ending end (pattern_arguments p ∷ ps) named ≡ Err (end_fault ending end)
   unfolding end_row
-  function_end Whole ps end = rw and_no refl
+  function_end Whole ps end = rw and-false refl
   function_end (Stopped why line column) ps end = refl
 
   other_paren : (ps : List Part) (end : End) (xs : List Lexeme) → sees terminal.OpenParen xs ≡ false → outcome end (pattern_arguments p ∷ ps) named xs ≡ Err (refusal_at kind.WrongArity end xs)

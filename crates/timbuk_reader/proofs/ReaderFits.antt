@@ -1,4 +1,5 @@
 -- What is known of a shape that was read.
+use Rattle.std.proofs.Math.Bool.{and-false}
 use Rattle.std.proofs.Common.{◌≡◌, ℕ, zero, suc, ◌+◌, ◌<◌, length, get_or, Bool, true, false, ◌&&◌, ◌==◌, IsTrue, List, [], ◌∷◌, ◌++◌, map, Option, Some, None, cond, refl, ap, sym, ◌∙◌, subst, arith, append_assoc}
 use Rattle.std.specs.Prelude.{nat_lt, not}
 use Rattle.std.specs.List.{list_all}
@@ -24,7 +25,8 @@ use Rattle.timbuk_reader.specs.Patterns.{IsPatternPlace, pattern_fault, misuse, 
 
 -- ---- shapes
 
-each_test : {A : Type 0} (p : A → Bool) (xs : List A) → list_all (λ b. b) (map p xs) ≡ list_all p xs
+-- a test of each element
+pub each_test : {A : Type 0} (p : A → Bool) (xs : List A) → list_all (λ b. b) (map p xs) ≡ list_all p xs
 each_test p [] = refl
 each_test p (x ∷ xs) = ap (λ b. p x && b) (each_test p xs)
 
@@ -78,11 +80,8 @@ binds_on : (p : Place) (a b c : List ℕ) (xs ys : List ℕ) → Binds p a xs b 
 binds_on p a b c [] ys h k = subst (λ z. Binds p z ys c) h k
 binds_on p a b c (x ∷ xs) ys h k = (h.0, binds_on p (with_variable a x) b c xs ys h.1 k)
 
-and_no : (b : Bool) → (b && false) ≡ false
-and_no true = refl
-and_no false = refl
-
-all_on : {A : Type 0} (test : A → Bool) (xs : List A) (x : A) → list_all test xs ≡ true → test x ≡ true → list_all test (xs ++ x ∷ []) ≡ true
+-- a test that one more element passes
+pub all_on : {A : Type 0} (test : A → Bool) (xs : List A) (x : A) → list_all test xs ≡ true → test x ≡ true → list_all test (xs ++ x ∷ []) ≡ true
 all_on test [] x h k = rw k refl
 all_on test (y ∷ ys) x h k = let both = and_parts (test y) (list_all test ys) h in and_from (test y) (list_all test (ys ++ x ∷ [])) both.0 (all_on test ys x both.1 k)
 
@@ -176,7 +175,7 @@ counted _ r q h b = absurd h
 fails_at : {A : Type 0} (test : A → Bool) (xs : List A) (i : ℕ) (x : A) → i < length xs → x ≡ get_or xs i x → test x ≡ false → list_all test xs ≡ false
 fails_at test [] i x lt e h = absurd (omega arith)
 fails_at test (y ∷ ys) zero x lt e h = ap (λ b. b && list_all test ys) (ap test (sym e) ∙ h)
-fails_at test (y ∷ ys) (suc i) x lt e h = ap (λ b. test y && b) (fails_at test ys i x (omega arith) e h) ∙ and_no (test y)
+fails_at test (y ∷ ys) (suc i) x lt e h = ap (λ b. test y && b) (fails_at test ys i x (omega arith) e h) ∙ and-false (test y)
 
 -- a shape has the states of its arguments
 pub not_below : (bound f : ℕ) (args items : List Shape) (s : Shape) (i : ℕ) (x : Shape) → s ≡ App f args → items ≡ args → i < length items → x ≡ get_or items i x → shape_is_below bound x ≡ false → shape_is_below bound s ≡ false

@@ -39,6 +39,7 @@ use Rattle.timbuk_reader.specs.Patterns.{within, IsFirstSide, Builds, Breaks, Bi
 use Rattle.timbuk_reader.specs.Sides.{IsSide}
 use Rattle.timbuk_reader.proofs.Steps.{one_front, then_leads, then_stops, later_stops}
 use Rattle.timbuk_reader.proofs.StepsTokens.{IsOther, use_row, row_other, step_on, step_fault, calm_quiet, mark_leads, mark_stops}
+use Rattle.timbuk_reader.proofs.ReaderFits.{all_on}
 use Rattle.timbuk_reader.proofs.ReaderSides.{left_binds, right_binds, binds_firsts, no_variable, same_over}
 
 -- ---- the sides of a declaration
@@ -173,10 +174,6 @@ seen_first t [] e = cc
 seen_first t (x ∷ rest) e = (x, rest, refl, e)
 
 -- ---- what is kept of the signature
-
-all_on : {A : Type 0} (test : A → Bool) (xs : List A) (x : A) → list_all test xs ≡ true → test x ≡ true → list_all test (xs ++ x ∷ []) ≡ true
-all_on test [] x h k = rw k refl
-all_on test (y ∷ ys) x h k = let both = and_parts (test y) (list_all test ys) h in and_from (test y) (list_all test (ys ++ x ∷ [])) both.0 (all_on test ys x both.1 k)
 
 pub rules_on : (signature : List Symbol) (rules : List RewriteRule) (new : RewriteRule) → rules_are_over signature rules ≡ true → pattern_is_over signature new.left ≡ true → pattern_is_over signature new.right ≡ true → rules_are_over signature (rules ++ new ∷ []) ≡ true
 rules_on signature rules new h l r = all_on (λ (z : RewriteRule). pattern_is_over signature z.left && pattern_is_over signature z.right) rules new h (rw (l, r) refl)

@@ -41,10 +41,6 @@ same_occurrences = pattern_induction (λ p. occurrences p ≡ shape_occurrences 
     (λ v. occurrences_var v ∙ sym (ap shape_occurrences (shape_var v) ∙ fits.occurs_var v))
     (λ f ps h. occurrences_app f ps ∙ each_same ps h ∙ sym (ap shape_occurrences (shape_app f ps) ∙ fits.occurs_app f (map shape_of ps)))
 
-each_test : {A : Type 0} (p : A → Bool) (xs : List A) → list_all (λ b. b) (map p xs) ≡ list_all p xs
-each_test p [] = refl
-each_test p (x ∷ xs) = ap (λ b. p x && b) (each_test p xs)
-
 each_over : (signature : List Symbol) (ps : List Pattern) → Each (λ p. pattern_is_over signature p ≡ shape_is_over signature (shape_of p)) ps → list_all (pattern_is_over signature) ps ≡ list_all (shape_is_over signature) (map shape_of ps)
 each_over signature [] h = refl
 each_over signature (p ∷ ps) h = λ i. h.0 i && each_over signature ps h.1 i
@@ -57,7 +53,7 @@ pub same_over : (signature : List Symbol) (p : Pattern) → pattern_is_over sign
 same_over signature = pattern_induction (λ p. pattern_is_over signature p ≡ shape_is_over signature (shape_of p))
     (λ v. over_var signature v ∙ sym (ap (shape_is_over signature) (shape_var v) ∙ fits.over_var signature v))
     (λ f ps h. over_app signature f ps
-    ∙ (λ i. is_symbol signature f (sym (length-map ps shape_of) i) && (each_test (pattern_is_over signature) ps ∙ each_over signature ps h) i)
+    ∙ (λ i. is_symbol signature f (sym (length-map ps shape_of) i) && (fits.each_test (pattern_is_over signature) ps ∙ each_over signature ps h) i)
     ∙ sym (ap (shape_is_over signature) (shape_app f ps) ∙ fits.over_app signature f (map shape_of ps)))
 
 -- ---- variables

@@ -1,4 +1,4 @@
-use Rattle.std.proofs.Common.{◌≡◌, ◌≢◌, false, Option, Some, None, MatchOption, sym, ap, ◌∙◌, refl}
+use Rattle.std.proofs.Common.{◌≡◌, false, Option, Some, None, MatchOption, sym, ap, ◌∙◌}
 use Rattle.std.proofs.lemmas.List.{take_all}
 use Rattle.ranked_terms.specs.declared.term.Pattern.{Pattern}
 use Rattle.ranked_terms.specs.declared.term.Shape.{Shape}

@@ -1,6 +1,6 @@
 use Rattle.std.proofs.Common.{arith, sym, ◌∙◌}
 use Rattle.std.proofs.lemmas.Grind.{common_steps}
-use Rattle.timbuk_grammar.specs.Grammar.{Part, many, equation, one, ◌then◌, pattern}
+use Rattle.timbuk_grammar.specs.Grammar.{many, equation, one, ◌then◌, pattern}
 use Rattle.timbuk_grammar.specs.declared.terminal.Place.TheVariants as place
 use Rattle.timbuk_grammar.specs.declared.terminal.Terminal.TheVariants as terminal
 use Rattle.timbuk_reader.specs.View.{closed}

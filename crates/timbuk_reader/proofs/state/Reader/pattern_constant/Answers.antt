@@ -1,7 +1,6 @@
-use Rattle.std.proofs.Common.{◌≡◌, refl, sym, ap, ◌∙◌, arith, subst, []}
+use Rattle.std.proofs.Common.{refl, sym, arith, subst, []}
 use Rattle.std.proofs.lemmas.Grind.{common_steps}
 use Rattle.ranked_terms.specs.declared.term.Shape.TheVariants as shape
-use Rattle.timbuk_reader.specs.Declarations.{Declared}
 use Rattle.timbuk_reader.specs.View.{state_of}
 use Rattle.timbuk_reader.specs.Patterns.{Breaks, Builds, Fits}
 use Rattle.timbuk_reader.proofs.ReaderMeanings.{symbol_arity}

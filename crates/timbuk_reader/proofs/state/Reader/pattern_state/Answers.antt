@@ -1,6 +1,5 @@
-use Rattle.std.proofs.Common.{◌≡◌, refl, sym, ap, ◌∙◌, arith}
+use Rattle.std.proofs.Common.{arith}
 use Rattle.std.proofs.lemmas.Grind.{common_steps}
-use Rattle.timbuk_reader.specs.Declarations.{Declared}
 use Rattle.timbuk_reader.specs.View.{state_of}
 use Rattle.timbuk_reader.specs.Patterns.{Breaks}
 use Rattle.timbuk_reader.proofs.ReaderMeanings.{state_below}

@@ -1,7 +1,5 @@
-use Rattle.std.proofs.Common.{◌≡◌, ◌∷◌, refl, sym, ap, ◌∙◌, arith}
+use Rattle.std.proofs.Common.{sym, ◌∙◌, arith}
 use Rattle.std.proofs.lemmas.Grind.{common_steps}
-use Rattle.timbuk_reader.specs.Declarations.{Declared}
-use Rattle.timbuk_reader.specs.View.{state_of}
 use Rattle.timbuk_reader.specs.Patterns.{Breaks, SameBut}
 use Rattle.timbuk_reader.proofs.ReaderFits.{same_now, same_then, fits_variable, may_stand}
 use Rattle.timbuk_reader.proofs.ReaderPatterns.{variable_breaks, variable_builds}

@@ -1,5 +1,4 @@
-use Rattle.std.proofs.Common.{◌≡◌, refl, sym, ap, ◌∙◌, subst}
-use Rattle.ranked_terms.specs.Terms.{occurrences}
+use Rattle.std.proofs.Common.{◌≡◌, sym, ap, ◌∙◌, subst}
 use Rattle.ta_core.specs.SpecRules.{shape_occurrences}
 use Rattle.timbuk_reader.specs.Naming.{shape_of}
 use Rattle.timbuk_reader.specs.Patterns.{Builds, Binds, IsNoVariable}
