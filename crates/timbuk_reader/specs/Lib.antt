@@ -6,3 +6,7 @@ pub mod Naming
 pub mod SpecText
 pub mod Spelled
 pub mod Laws
+pub mod NameTables
+pub mod View
+pub mod Reads
+pub mod Kept

@@ -1,8 +1,13 @@
 //! The reader of input texts: what a text spells, or its first fault.
 #![tactic(auto)]
 
+mod automaton;
+mod cursor;
 mod fault;
 mod laws;
+mod names;
+mod state;
+mod symbols;
 
-pub use fault::{LimitName, SpecFault, SpecKind};
+pub use fault::{LimitName, SpecError, SpecFault, SpecKind};
 pub use laws::{no_text_has_two_specs, texts_are_read};
