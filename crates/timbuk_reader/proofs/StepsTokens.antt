@@ -267,15 +267,19 @@ mark_on t ps end d x rest m e f h =
 
 -- a mark was taken
 pub mark_leads : (t : Terminal) (o : Open) (r u : Reader) → IsMark t → IsCalm o → Took t r u → Leads (one t) o r o u
-mark_leads t o r u m h k = record { by = λ ps.
-    ap (outcome (end_of r) (one t ∷ ps) (declared o r)) k.tokens
-    ∙ mark_on t ps (end_of r) (declared o r) k.token u.tokens.now m h.applications h.last k.matched
-    ∙ (λ i. outcome (sym k.end i) ps (sym (declared_same o r u k.state) i) u.tokens.now) }
+mark_leads t o r u m h k = record {
+  by = λ ps.
+      ap (outcome (end_of r) (one t ∷ ps) (declared o r)) k.tokens
+      ∙ mark_on t ps (end_of r) (declared o r) k.token u.tokens.now m h.applications h.last k.matched
+      ∙ (λ i. outcome (sym k.end i) ps (sym (declared_same o r u k.state) i) u.tokens.now);
+}
 
 -- a terminal was not there
 pub mark_stops : (t : Terminal) (o : Open) (r : Reader) (e : SpecError) → IsCalm o → Missed t r e → Stops (one t) o r e
-mark_stops t o r e h k = record { by = λ ne ps.
-    ap as_error (step_missed (one t ∷ ps) t ps (end_of r) (declared o r) r.tokens.now (one_front t ps) k.unseen (λ x. calm_arity (declared o r) x h.applications h.last)) ∙ ap Err (sym k.told) }
+mark_stops t o r e h k = record {
+  by = λ ne ps.
+      ap as_error (step_missed (one t ∷ ps) t ps (end_of r) (declared o r) r.tokens.now (one_front t ps) k.unseen (λ x. calm_arity (declared o r) x h.applications h.last)) ∙ ap Err (sym k.told);
+}
 
 pub closed_calm : IsCalm closed
 closed_calm = record { applications = refl; last = refl }
@@ -303,21 +307,25 @@ word_row t d x w e f h = row_other t d x (word_other t w) h (calm_quiet d x e f)
 -- a word was read
 pub word_leads : (t : Terminal) (o q : Open) (r u : Reader) (text : Bytes) (x : Lexeme) → IsWordly t → IsCalm o → Stands t r text → use_row t text (declared o r) ≡ None
     → r.tokens.now ≡ x ∷ u.tokens.now → end_of u ≡ end_of r → declared q u ≡ adds t text (declared o r) → Leads (one t) o r q u
-word_leads t o q r u text x w h k n tokens end state = record { by = λ ps.
-    let same : k.rest ≡ u.tokens.now = let e = sym k.tokens ∙ tokens in cc in
-    let d = declared o r in
-    ap (outcome (end_of r) (one t ∷ ps) d) k.tokens
-    ∙ step_on (one t ∷ ps) t ps (end_of r) d k.token k.rest (one_front t ps) k.matched (word_row t d k.token w h.applications h.last k.matched ∙ ap (λ z. use_row t z d) k.text_is ∙ n)
-    ∙ (λ i. outcome (sym end i) ps (adds t (k.text_is i) d) (same i))
-    ∙ ap (λ z. outcome (end_of u) ps z u.tokens.now) (sym state) }
+word_leads t o q r u text x w h k n tokens end state = record {
+  by = λ ps.
+      let same : k.rest ≡ u.tokens.now = let e = sym k.tokens ∙ tokens in cc in
+      let d = declared o r in
+      ap (outcome (end_of r) (one t ∷ ps) d) k.tokens
+      ∙ step_on (one t ∷ ps) t ps (end_of r) d k.token k.rest (one_front t ps) k.matched (word_row t d k.token w h.applications h.last k.matched ∙ ap (λ z. use_row t z d) k.text_is ∙ n)
+      ∙ (λ i. outcome (sym end i) ps (adds t (k.text_is i) d) (same i))
+      ∙ ap (λ z. outcome (end_of u) ps z u.tokens.now) (sym state);
+}
 
 -- a word is refused
 pub word_stops : (t : Terminal) (o : Open) (r : Reader) (text : Bytes) (k : SpecKind) (e : SpecError) → IsWordly t → IsCalm o → Stands t r text → use_row t text (declared o r) ≡ Some k → e ≡ error.Fault (refusal k r) → Stops (one t) o r e
-word_stops t o r text k e w h s n told = record { by = λ ne ps.
-    let d = declared o r in
-    ap as_error (ap (outcome (end_of r) (one t ∷ ps) d) s.tokens
-    ∙ step_fault (one t ∷ ps) t ps (end_of r) d s.token s.rest k (one_front t ps) s.matched (word_row t d s.token w h.applications h.last s.matched ∙ ap (λ z. use_row t z d) s.text_is ∙ n)
-    ∙ ap (λ xs. Err (refusal_at k (end_of r) xs)) (sym s.tokens)) ∙ ap Err (sym told) }
+word_stops t o r text k e w h s n told = record {
+  by = λ ne ps.
+      let d = declared o r in
+      ap as_error (ap (outcome (end_of r) (one t ∷ ps) d) s.tokens
+      ∙ step_fault (one t ∷ ps) t ps (end_of r) d s.token s.rest k (one_front t ps) s.matched (word_row t d s.token w h.applications h.last s.matched ∙ ap (λ z. use_row t z d) s.text_is ∙ n)
+      ∙ ap (λ xs. Err (refusal_at k (end_of r) xs)) (sym s.tokens)) ∙ ap Err (sym told);
+}
 
 long_row : (t : Terminal) (text : Bytes) (d : Declared) → IsWordly t → 255 < length text → use_row t text d ≡ Some (kind.Limit limit.NameBytes)
 unfolding passed
@@ -328,8 +336,10 @@ long_row _ text d w h = absurd w
 -- no word stands there, or a long one
 pub no_word_stops : (t : Terminal) (o : Open) (r : Reader) (e : SpecError) → IsWordly t → IsCalm o → HasNoWord t r e → Stops (one t) o r e
 no_word_stops t o r e w h (missed m) = mark_stops t o r e h m
-no_word_stops t o r e w h (long l told) = record { by = λ ne ps.
-    let d = declared o r in
-    ap as_error (ap (outcome (end_of r) (one t ∷ ps) d) l.tokens
-    ∙ step_fault (one t ∷ ps) t ps (end_of r) d l.token l.rest (kind.Limit limit.NameBytes) (one_front t ps) l.matched (word_row t d l.token w h.applications h.last l.matched ∙ long_row t l.token.text d w l.long)
-    ∙ ap (λ xs. Err (refusal_at (kind.Limit limit.NameBytes) (end_of r) xs)) (sym l.tokens)) ∙ ap Err (sym told) }
+no_word_stops t o r e w h (long l told) = record {
+  by = λ ne ps.
+      let d = declared o r in
+      ap as_error (ap (outcome (end_of r) (one t ∷ ps) d) l.tokens
+      ∙ step_fault (one t ∷ ps) t ps (end_of r) d l.token l.rest (kind.Limit limit.NameBytes) (one_front t ps) l.matched (word_row t d l.token w h.applications h.last l.matched ∙ long_row t l.token.text d w l.long)
+      ∙ ap (λ xs. Err (refusal_at (kind.Limit limit.NameBytes) (end_of r) xs)) (sym l.tokens)) ∙ ap Err (sym told);
+}

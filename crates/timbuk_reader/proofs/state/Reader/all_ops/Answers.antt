@@ -12,5 +12,5 @@ pub returns-in_err-op-clause-reads : goal.returns-in_err-op-clause-reads
 returns-in_err-op-clause-reads c =
     let e = c.in_err-op.field-0.0 in
     let stops : Stops (many op) closed c.args.self.now e =
-        turns_err op (terminal.Named place.Symbol) c.args.self.now c.loop-self.self e c.loop-self.invariant.turns (then_head (terminal.Named place.Symbol) (one terminal.Colon then one terminal.Number)) (sym c.sees.ensures.value ∙ c.loop-self-test.true) c.in_err-op.ensures.reads in
+    turns_err op (terminal.Named place.Symbol) c.args.self.now c.loop-self.self e c.loop-self.invariant.turns (then_head (terminal.Named place.Symbol) (one terminal.Colon then one terminal.Number)) (sym c.sees.ensures.value ∙ c.loop-self-test.true) c.in_err-op.ensures.reads in
     grind (arith, common_steps)

@@ -12,5 +12,5 @@ pub returns-in_err-variable_name : goal.returns-in_err-variable_name
 returns-in_err-variable_name c =
     let e = c.in_err-variable_name.field-0.0 in
     let stops : Stops (many (name place.Variable)) closed c.args.self.now e =
-        turns_err (name place.Variable) (terminal.Named place.Variable) c.args.self.now c.loop-self.self e c.loop-self.invariant (one_head (terminal.Named place.Variable)) (sym c.sees.ensures.value ∙ c.loop-self-test.true) c.in_err-variable_name.ensures.reads in
+    turns_err (name place.Variable) (terminal.Named place.Variable) c.args.self.now c.loop-self.self e c.loop-self.invariant (one_head (terminal.Named place.Variable)) (sym c.sees.ensures.value ∙ c.loop-self-test.true) c.in_err-variable_name.ensures.reads in
     grind (arith, common_steps)

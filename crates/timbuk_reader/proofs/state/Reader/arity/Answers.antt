@@ -17,7 +17,7 @@ returns-then-arity-gt-MAX_ARITY-clause-reads c =
     let number : c.number_of-arity.result ≡ min (value_of text) 17 = c.number_of-arity.ensures ∙ ap (λ z. min (value_of z) 17) c.as_bytes.ensures.value in
     let large : 16 < value_of text = omega arith in
     word_stops terminal.Number (naming c.args.name.now) r text (kind.Limit limit.Arity) c.refusal.result tt (naming_calm c.args.name.now) stands
-      (large_number text (declared (naming c.args.name.now) r) stands.short large) c.refusal.ensures
+    (large_number text (declared (naming c.args.name.now) r) stands.short large) c.refusal.ensures
 
 pub invariant_of-self-clause-rules_over : goal.invariant_of-self-clause-rules_over
 invariant_of-self-clause-rules_over c = fresh_rules c.args.self.now c.add.new.self c.requires.fresh
@@ -44,5 +44,5 @@ returns-in-Ok-clause-reads c =
     let small : value_of text ≤ 16 = omega arith in
     let exact : c.number_of-arity.result ≡ value_of text = omega arith in
     word_leads terminal.Number (naming c.args.name.now) closed r c.advance.new.self text c.advance.result.now tt (naming_calm c.args.name.now) stands
-      (small_number text (declared (naming c.args.name.now) r) stands.short small) c.advance.ensures.token c.advance.ensures.end
-      (c.advance.ensures.state ∙ rw (c.in-Ok.ensures.added, exact) refl)
+    (small_number text (declared (naming c.args.name.now) r) stands.short small) c.advance.ensures.token c.advance.ensures.end
+    (c.advance.ensures.state ∙ rw (c.in-Ok.ensures.added, exact) refl)

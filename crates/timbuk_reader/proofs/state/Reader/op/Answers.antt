@@ -12,5 +12,5 @@ returns-clause-reads c =
     let m = c.symbol_name.new.self in
     let text = c.in_ok-name.name.now in
     then_reads (name place.Symbol) (one terminal.Colon then one terminal.Number) closed (naming text) closed r m c.arity.new.self c.arity.result c.in_ok-name.ensures.ok
-      (then_reads (one terminal.Colon) (one terminal.Number) (naming text) (naming text) closed m c.mark.new.self c.arity.new.self c.arity.result
-        (mark_leads terminal.Colon (naming text) m c.mark.new.self tt (naming_calm text) c.in_ok-mark.ensures.takes) c.arity.ensures.reads)
+    (then_reads (one terminal.Colon) (one terminal.Number) (naming text) (naming text) closed m c.mark.new.self c.arity.new.self c.arity.result
+    (mark_leads terminal.Colon (naming text) m c.mark.new.self tt (naming_calm text) c.in_ok-mark.ensures.takes) c.arity.ensures.reads)

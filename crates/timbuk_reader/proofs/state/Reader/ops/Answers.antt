@@ -10,4 +10,4 @@ returns-clause-reads c =
     let r = c.args.self.now in
     let u = c.all_ops.new.self in
     maybe_reads ops terminal.Ops closed closed r u c.all_ops.result (then_head terminal.Ops (many op)) (sym c.sees.ensures.value ∙ c.if-not-sees.false)
-      (then_reads (one terminal.Ops) (many op) closed closed closed r c.mark.new.self u c.all_ops.result c.in_ok-mark.ensures.reads c.all_ops.ensures.reads)
+    (then_reads (one terminal.Ops) (many op) closed closed closed r c.mark.new.self u c.all_ops.result c.in_ok-mark.ensures.reads c.all_ops.ensures.reads)

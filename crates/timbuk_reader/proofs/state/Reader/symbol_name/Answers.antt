@@ -18,7 +18,7 @@ returns-then-len-ge-MAX_SYMBOLS-clause-err c =
     let stands = c.in_ok-name.ensures.ok in
     let many : 4096 ≤ length r.signature = omega arith in
     word_stops (terminal.Named place.Symbol) closed r c.in_ok-name.name.now (kind.Limit limit.Symbols) c.refusal.result tt closed_calm stands
-      (declared_over place.Symbol c.in_ok-name.name.now (state_of r) limit.Symbols tt stands.short (reached 4096 (length r.signature) limit.Symbols many)) c.refusal.ensures
+    (declared_over place.Symbol c.in_ok-name.name.now (state_of r) limit.Symbols tt stands.short (reached 4096 (length r.signature) limit.Symbols many)) c.refusal.ensures
 
 pub returns-then-is_some-clause-err : goal.returns-then-is_some-clause-err
 returns-then-is_some-clause-err c =
@@ -28,7 +28,7 @@ returns-then-is_some-clause-err c =
     let few : length r.signature < 4096 = omega arith in
     let found : is_in (names_of r.signature) text ≡ Rattle.std.proofs.Common.true = is_in-position (names_of r.signature) text ∙ ap is_some (sym c.find.ensures.value) ∙ sym c.is_some.ensures ∙ c.if-is_some.true in
     word_stops (terminal.Named place.Symbol) closed r text kind.DoubleName c.refusal-then-is_some.result tt closed_calm stands
-      (declared_double place.Symbol text (state_of r) tt stands.short (below 4096 (length r.signature) limit.Symbols few) found) c.refusal-then-is_some.ensures
+    (declared_double place.Symbol text (state_of r) tt stands.short (below 4096 (length r.signature) limit.Symbols few) found) c.refusal-then-is_some.ensures
 
 pub returns-clause-ok : goal.returns-clause-ok
 unfolding adds
@@ -39,5 +39,5 @@ returns-clause-ok c =
     let few : length r.signature < 4096 = omega arith in
     let absent : is_in (names_of r.signature) text ≡ Rattle.std.proofs.Common.false = is_in-position (names_of r.signature) text ∙ ap is_some (sym c.find.ensures.value) ∙ sym c.is_some.ensures ∙ c.if-is_some.false in
     word_leads (terminal.Named place.Symbol) closed (naming text) r c.advance.new.self text c.advance.result.now tt closed_calm stands
-      (declared_new place.Symbol text (state_of r) tt stands.short (below 4096 (length r.signature) limit.Symbols few) absent) c.advance.ensures.token c.advance.ensures.end
-      (declared_same (naming text) r c.advance.new.self c.advance.ensures.state)
+    (declared_new place.Symbol text (state_of r) tt stands.short (below 4096 (length r.signature) limit.Symbols few) absent) c.advance.ensures.token c.advance.ensures.end
+    (declared_same (naming text) r c.advance.new.self c.advance.ensures.state)

@@ -17,7 +17,7 @@ returns-then-len-ge-MAX_VARIABLES-clause-reads c =
     let stands = c.in_ok-name.ensures.ok in
     let many : 1024 ≤ length r.variables = omega arith in
     word_stops (terminal.Named place.Variable) closed r c.in_ok-name.name.now (kind.Limit limit.Declared) c.refusal.result tt closed_calm stands
-      (declared_over place.Variable c.in_ok-name.name.now (state_of r) limit.Declared tt stands.short (reached 1024 (length r.variables) limit.Declared many)) c.refusal.ensures
+    (declared_over place.Variable c.in_ok-name.name.now (state_of r) limit.Declared tt stands.short (reached 1024 (length r.variables) limit.Declared many)) c.refusal.ensures
 
 pub returns-then-is_taken-clause-reads : goal.returns-then-is_taken-clause-reads
 returns-then-is_taken-clause-reads c =
@@ -27,7 +27,7 @@ returns-then-is_taken-clause-reads c =
     let few : length r.variables < 1024 = omega arith in
     let taken : is_in (names_of r.signature ++ r.variables) text ≡ true = sym c.is_taken.ensures ∙ c.if-is_taken.true in
     word_stops (terminal.Named place.Variable) closed r text kind.DoubleName c.refusal-then-is_taken.result tt closed_calm stands
-      (declared_double place.Variable text (state_of r) tt stands.short (below 1024 (length r.variables) limit.Declared few) taken) c.refusal-then-is_taken.ensures
+    (declared_double place.Variable text (state_of r) tt stands.short (below 1024 (length r.variables) limit.Declared few) taken) c.refusal-then-is_taken.ensures
 
 pub add-requires-clause-new : goal.add-requires-clause-new
 add-requires-clause-new c =
@@ -44,5 +44,5 @@ returns-clause-reads c =
     let few : length r.variables < 1024 = omega arith in
     let new : is_in (names_of r.signature ++ r.variables) text ≡ false = sym c.is_taken.ensures ∙ c.if-is_taken.false in
     word_leads (terminal.Named place.Variable) closed closed r c.advance.new.self text c.advance.result.now tt closed_calm stands
-      (declared_new place.Variable text (state_of r) tt stands.short (below 1024 (length r.variables) limit.Declared few) new) c.advance.ensures.token c.advance.ensures.end
-      (c.advance.ensures.state ∙ rw c.in_ok-add.ensures.ok refl)
+    (declared_new place.Variable text (state_of r) tt stands.short (below 1024 (length r.variables) limit.Declared few) new) c.advance.ensures.token c.advance.ensures.end
+    (c.advance.ensures.state ∙ rw c.in_ok-add.ensures.ok refl)

@@ -11,4 +11,4 @@ returns c =
     let r = c.args.self.now in
     let u = c.all_vars.new.self in
     maybe_reads vars terminal.Vars closed closed r u c.all_vars.result (then_head terminal.Vars (many (name place.Variable))) (sym c.sees.ensures.value ∙ c.if-not-sees.false)
-      (then_reads (one terminal.Vars) (many (name place.Variable)) closed closed closed r c.mark.new.self u c.all_vars.result c.in_ok-mark.ensures.reads c.all_vars.ensures.reads)
+    (then_reads (one terminal.Vars) (many (name place.Variable)) closed closed closed r c.mark.new.self u c.all_vars.result c.in_ok-mark.ensures.reads c.all_vars.ensures)
