@@ -1,12 +1,43 @@
 //! Reads automata.
-ghost use Rattle.std.specs.Prelude.{◌≡◌};
-ghost use Rattle.timbuk_reader.specs.Declarations.{no_automaton};
-ghost use Rattle.timbuk_reader.specs.View.{started};
+ghost use Rattle.std.specs.Prelude.{◌≡◌, ◌<◌, ◌+◌, ◌∷◌, [], IsTrue, IfOk, IfErr, OnOk, length, position};
+ghost use Rattle.std.specs.Str.{bytes_eq};
+ghost use Rattle.timbuk_grammar.specs.Grammar as grammar;
+ghost use Rattle.timbuk_grammar.specs.declared.terminal.Place.TheVariants as place;
+ghost use Rattle.timbuk_grammar.specs.declared.terminal.Terminal.TheVariants as terminal;
+ghost use Rattle.timbuk_reader.specs.Declarations.{no_automaton, uses, adds};
+ghost use Rattle.timbuk_reader.specs.Rows.{is_in};
+ghost use Rattle.timbuk_reader.specs.Kept.{trans_are_over, trans_are_below};
+ghost use Rattle.timbuk_reader.specs.View.{Shorter, closed, started, state_of, sees};
+ghost use Rattle.timbuk_reader.specs.Reads.{Leads, Stops, Reads};
+ghost use Rattle.timbuk_reader.specs.AutomatonReads.{IsInAutomaton, NoLonger, StaysThere, MayDeclare, UsesState, states_of, table_of, no_arity, described, prior, behind_head, first_argument, next_argument, from_state, begun, arguing, argued, opened, IsNode, IsNewNode, IsLoneState, IsStart, SameSymbol, TookState, LacksState, ReadState, StopsState, Miscounts, with_trans, with_epsilon};
 
+use crate::fault::{LimitName, SpecError, SpecKind};
 use crate::names::NameTable;
-use crate::state::StartedAutomaton;
+use crate::state::{Reader, StartedAutomaton};
 use ranked_terms::Seq;
-use std::alloc::Global;
+use std::alloc::{AllocError, Global};
+use ta_core::{Args, MAX_STATES, Trans};
+use timbuk_grammar::{Place, Terminal};
+
+/// The largest number of automata.
+const MAX_AUTOMATA: u32 = 2;
+
+/// What a transition starts with.
+#[derive(Drop)]
+enum Start {
+    /// A state: the transition is an epsilon transition.
+    State(u32),
+    /// A symbol.
+    Symbol(Node),
+}
+
+/// The symbol of a transition, with those of its arguments that were read.
+#[derive(Drop)]
+struct Node {
+    sym: u32,
+    arity: u32,
+    args: Seq<u32>,
+}
 
 impl StartedAutomaton {
     /// The automaton of which nothing is declared. It takes no memory yet, and grows by `alloc`.
@@ -19,5 +50,514 @@ impl StartedAutomaton {
             trans: Seq::new(alloc),
             eps: Seq::new(alloc),
         }
+    }
+}
+
+// ---- sections
+
+impl<'s, 'a> Reader<'s, 'a> {
+    /// An automaton, from its word on. It is refused where there are two.
+    pub(crate) fn automaton(&mut self) -> Result<(), SpecError>
+        ensures shorter { OnOk result (Shorter self.old self.new) }
+        ensures reads { Reads grammar.automaton closed self.old result closed self.new }
+    {
+        self.automaton_word()?;
+        self.title()?;
+        self.mark(Terminal::States)?;
+        self.states(Place::State)?;
+        self.description()?;
+        self.final_states()?;
+        self.transitions()
+    }
+
+    /// The word `Automaton`, by which the count rises. It is refused where there are two automata.
+    fn automaton_word(&mut self) -> Result<(), SpecError>
+        ensures shorter { OnOk result (Shorter self.old self.new) }
+        ensures reads { Reads (grammar.one terminal.Automaton) closed self.old result closed self.new }
+        ensures inside { OnOk result (IsInAutomaton self.new) }
+    {
+        if self.sees(Terminal::Automaton) && self.automata >= MAX_AUTOMATA {
+            return Err(self.refusal(SpecKind::Limit(LimitName::Automata)));
+        }
+        self.take(Terminal::Automaton)?;
+        self.automata += 1;
+        Ok(())
+    }
+
+    /// The name of a section, which has no effect. It is refused only as a name of more than 255 bytes.
+    pub(crate) fn title(&mut self) -> Result<(), SpecError>
+        ensures shorter { OnOk result (Shorter self.old self.new) }
+        ensures reads { Reads (grammar.name place.Title) closed self.old result closed self.new }
+        ensures same { OnOk result (state_of self.new ≡ state_of self.old) }
+    {
+        self.word(Terminal::Named(Place::Title))?;
+        self.advance();
+        Ok(())
+    }
+}
+
+// ---- the states that are declared
+
+impl<'s, 'a> Reader<'s, 'a> {
+    /// States of the automaton or, in the approximation's place, of the approximation, as many as there are.
+    pub(crate) fn states(&mut self, place: Place) -> Result<(), SpecError>
+        requires { MayDeclare place self.old }
+        ensures no_longer { OnOk result (NoLonger self.old self.new) }
+        ensures reads { Reads (grammar.many (grammar.state place)) closed self.old result closed self.new }
+        ensures declares { OnOk result (MayDeclare place self.new) }
+    {
+        while self.sees(Terminal::Named(place)) {
+            self.declared_state(place)?;
+        }
+        Ok(())
+    }
+
+    /// A state, and its arity 0, which may be left out.
+    fn declared_state(&mut self, place: Place) -> Result<(), SpecError>
+        requires { MayDeclare place self.old }
+        ensures shorter { OnOk result (Shorter self.old self.new) }
+        ensures reads { Reads (grammar.state place) closed self.old result closed self.new }
+        ensures declares { OnOk result (MayDeclare place self.new) }
+    {
+        self.state_name(place)?;
+        self.no_arity()
+    }
+
+    /// The name of a state, which is added. It is refused where there are 16,384 states, and where a symbol, a variable or
+    /// one of these states has the name.
+    fn state_name(&mut self, place: Place) -> Result<(), SpecError>
+        requires { MayDeclare place self.old }
+        ensures shorter { OnOk result (Shorter self.old self.new) }
+        ensures reads { Reads (grammar.name place) closed self.old result closed self.new }
+        ensures declares { OnOk result (MayDeclare place self.new) }
+    {
+        let name = self.word(Terminal::Named(place))?;
+        if self.state_count(place) >= MAX_STATES {
+            return Err(self.refusal(SpecKind::Limit(LimitName::States)));
+        }
+        if self.is_taken(name) || self.is_state(place, name) {
+            return Err(self.refusal(SpecKind::DoubleName));
+        }
+        self.add_state(place, name)?;
+        self.advance();
+        Ok(())
+    }
+
+    /// The number of states beside which a state is declared.
+    fn state_count(&self, place: Place) -> u32
+        requires { MayDeclare place self.now }
+        ensures { result ≡ length (table_of place self.now) }
+    {
+        match (place, self.automata) {
+            (Place::State, 2) => self.second.states.len(),
+            _ => self.initial.states.len(),
+        }
+    }
+
+    /// Whether one of the states beside which a state is declared has the name.
+    fn is_state(&self, place: Place, name: &str) -> bool
+        requires { MayDeclare place self.now }
+        ensures { result ≡ is_in (table_of place self.now) name.now }
+    {
+        let state = match (place, self.automata) {
+            (Place::State, 2) => self.second.states.find(name),
+            _ => self.initial.states.find(name),
+        };
+        state.is_some()
+    }
+
+    /// Adds a state. At want of memory, the only error, nothing is said of the reader.
+    fn add_state(&mut self, place: Place, name: &str) -> Result<(), SpecError>
+        requires may { MayDeclare place self.old }
+        requires room { length (table_of place self.old) < 16384 }
+        requires new { is_in (table_of place self.old) name.now ≡ false }
+        ensures ok { OnOk result (state_of self.new ≡ adds (terminal.Named place) name.now (state_of self.old)) }
+        ensures there { OnOk result (StaysThere self.old self.new) }
+        ensures err { IfErr result (λ e. e ≡ SpecError.Memory) }
+        ensures declares { OnOk result (MayDeclare place self.new) }
+    {
+        match (place, self.automata) {
+            (Place::State, 2) => self.second.states.add(name)?,
+            (Place::State, _) => self.initial.states.add(name)?,
+            _ => {
+                self.initial.states.add(name)?;
+                self.extra += 1;
+            }
+        }
+        Ok(())
+    }
+
+    /// The arity 0 of a state, which may be left out.
+    fn no_arity(&mut self) -> Result<(), SpecError>
+        ensures no_longer { OnOk result (NoLonger self.old self.new) }
+        ensures reads { Reads no_arity closed self.old result closed self.new }
+        ensures same { OnOk result (state_of self.new ≡ state_of self.old) }
+    {
+        if !self.sees(Terminal::Colon) {
+            return Ok(());
+        }
+        self.mark(Terminal::Colon)?;
+        self.mark(Terminal::Zero)
+    }
+}
+
+// ---- the states that are used
+
+impl<'s, 'a> Reader<'s, 'a> {
+    /// A state of the automaton, and its number. Another name is refused as unknown, and a `(` behind the name as not
+    /// expected.
+    fn state(&mut self, place: Place) -> Result<u32, SpecError>
+        requires { UsesState place }
+        ensures shorter { OnOk result (Shorter self.old self.new) }
+        ensures ok { IfOk result (λ state. ReadState place self.old state self.new) }
+        ensures err { IfErr result (StopsState place self.old) }
+        ensures below { IfOk result (λ state. state < length (states_of self.new)) }
+        ensures same { OnOk result (state_of self.new ≡ state_of self.old) }
+    {
+        let name = self.word(Terminal::Named(place))?;
+        self.take_state(name)
+    }
+
+    /// Takes the next token, the name of a state, and gives the state's number. Another name is refused as unknown, and a
+    /// `(` behind the name as not expected.
+    fn take_state(&mut self, name: &str) -> Result<u32, SpecError>
+        requires { 0 < length self.old.tokens.now }
+        ensures shorter { OnOk result (Shorter self.old self.new) }
+        ensures ok { IfOk result (λ state. TookState name.now self.old state self.new) }
+        ensures err { IfErr result (LacksState name.now self.old) }
+        ensures below { IfOk result (λ state. state < length (states_of self.new)) }
+    {
+        let Some(state) = self.find_state(name) else {
+            return Err(self.refusal(SpecKind::UnknownName));
+        };
+        self.advance();
+        if self.sees(Terminal::OpenParen) {
+            return Err(self.refusal(SpecKind::Expected));
+        }
+        Ok(state)
+    }
+
+    /// The number of the state of this name in the automaton that is being read. `None` exactly where it has none.
+    fn find_state(&self, name: &str) -> Option<u32>
+        ensures { result ≡ position (bytes_eq name.now) (states_of self.now) }
+    {
+        if self.automata == MAX_AUTOMATA {
+            self.second.states.find(name)
+        } else {
+            self.initial.states.find(name)
+        }
+    }
+
+    /// The descriptions of states, if there are any, which have no effect.
+    fn description(&mut self) -> Result<(), SpecError>
+        ensures no_longer { OnOk result (NoLonger self.old self.new) }
+        ensures reads { Reads (grammar.maybe grammar.description) closed self.old result closed self.new }
+        ensures same { OnOk result (state_of self.new ≡ state_of self.old) }
+    {
+        if !self.sees(Terminal::Description) {
+            return Ok(());
+        }
+        self.mark(Terminal::Description)?;
+        self.all_described()
+    }
+
+    /// States with their descriptions, as many as there are.
+    fn all_described(&mut self) -> Result<(), SpecError>
+        ensures no_longer { OnOk result (NoLonger self.old self.new) }
+        ensures reads { Reads (grammar.many described) closed self.old result closed self.new }
+        ensures same { OnOk result (state_of self.new ≡ state_of self.old) }
+    {
+        while self.sees(Terminal::Named(Place::DescribedState)) {
+            self.described_state()?;
+        }
+        Ok(())
+    }
+
+    /// A state of the automaton with its description.
+    fn described_state(&mut self) -> Result<(), SpecError>
+        ensures shorter { OnOk result (Shorter self.old self.new) }
+        ensures reads { Reads described closed self.old result closed self.new }
+        ensures same { OnOk result (state_of self.new ≡ state_of self.old) }
+    {
+        self.state(Place::DescribedState)?;
+        self.mark(Terminal::Colon)?;
+        self.mark(Terminal::Quoted)
+    }
+
+    /// The final states.
+    fn final_states(&mut self) -> Result<(), SpecError>
+        requires { IsInAutomaton self.old }
+        ensures shorter { OnOk result (Shorter self.old self.new) }
+        ensures reads { Reads grammar.final_states closed self.old result closed self.new }
+        ensures inside { OnOk result (IsInAutomaton self.new) }
+    {
+        self.mark(Terminal::Final)?;
+        self.mark(Terminal::States)?;
+        self.all_finals()
+    }
+
+    /// Names of final states, as many as there are.
+    fn all_finals(&mut self) -> Result<(), SpecError>
+        requires { IsInAutomaton self.old }
+        ensures no_longer { OnOk result (NoLonger self.old self.new) }
+        ensures reads { Reads (grammar.many (grammar.name place.FinalState)) closed self.old result closed self.new }
+        ensures inside { OnOk result (IsInAutomaton self.new) }
+    {
+        while self.sees(Terminal::Named(Place::FinalState)) {
+            self.final_state()?;
+        }
+        Ok(())
+    }
+
+    /// A final state, which is added.
+    fn final_state(&mut self) -> Result<(), SpecError>
+        requires { IsInAutomaton self.old }
+        ensures shorter { OnOk result (Shorter self.old self.new) }
+        ensures reads { Reads (grammar.name place.FinalState) closed self.old result closed self.new }
+        ensures inside { OnOk result (IsInAutomaton self.new) }
+    {
+        let state = self.state(Place::FinalState)?;
+        self.add_final(state)?;
+        Ok(())
+    }
+
+    /// Adds a final state to the automaton that is being read. The only error is want of memory.
+    fn add_final(&mut self, state: u32) -> Result<(), AllocError>
+        requires inside { IsInAutomaton self.old }
+        requires below { state < length (states_of self.old) }
+        ensures ok { OnOk result (state_of self.new ≡ uses place.FinalState state (state_of self.old)) }
+        ensures there { OnOk result (StaysThere self.old self.new) }
+    {
+        if self.automata == MAX_AUTOMATA {
+            self.second.finals.push(state)
+        } else {
+            self.initial.finals.push(state)
+        }
+    }
+}
+
+// ---- transitions
+
+impl<'s, 'a> Reader<'s, 'a> {
+    /// The transitions, those under `Prior` first.
+    fn transitions(&mut self) -> Result<(), SpecError>
+        requires { IsInAutomaton self.old }
+        ensures no_longer { OnOk result (NoLonger self.old self.new) }
+        ensures reads { Reads grammar.transitions closed self.old result closed self.new }
+    {
+        self.prior()?;
+        self.mark(Terminal::Transitions)?;
+        self.all_transitions()
+    }
+
+    /// The transitions under `Prior`, if there are any.
+    fn prior(&mut self) -> Result<(), SpecError>
+        requires { IsInAutomaton self.old }
+        ensures no_longer { OnOk result (NoLonger self.old self.new) }
+        ensures reads { Reads prior closed self.old result closed self.new }
+        ensures inside { OnOk result (IsInAutomaton self.new) }
+    {
+        if !self.sees(Terminal::Prior) {
+            return Ok(());
+        }
+        self.mark(Terminal::Prior)?;
+        self.all_transitions()
+    }
+
+    /// Transitions, as many as there are.
+    fn all_transitions(&mut self) -> Result<(), SpecError>
+        requires { IsInAutomaton self.old }
+        ensures no_longer { OnOk result (NoLonger self.old self.new) }
+        ensures reads { Reads (grammar.many grammar.transition) closed self.old result closed self.new }
+        ensures inside { OnOk result (IsInAutomaton self.new) }
+    {
+        while self.sees(Terminal::Named(Place::TransitionHead)) {
+            self.transition()?;
+        }
+        Ok(())
+    }
+
+    /// A transition or an epsilon transition, which is added.
+    fn transition(&mut self) -> Result<(), SpecError>
+        requires { IsInAutomaton self.old }
+        ensures shorter { OnOk result (Shorter self.old self.new) }
+        ensures reads { Reads grammar.transition closed self.old result closed self.new }
+        ensures inside { OnOk result (IsInAutomaton self.new) }
+    {
+        match self.start()? {
+            Start::State(from) => self.move_from(from),
+            Start::Symbol(node) => self.move_up(node),
+        }
+    }
+
+    /// The name with which a transition starts, a symbol or a state of the automaton. Another name is refused as unknown, and
+    /// a `(` behind a state as not expected.
+    fn start(&mut self) -> Result<Start, SpecError>
+        ensures shorter { OnOk result (Shorter self.old self.new) }
+        ensures ok { IfOk result (λ start. Leads (grammar.name place.TransitionHead) closed self.old (opened start) self.new) }
+        ensures err { IfErr result (Stops (grammar.name place.TransitionHead) closed self.old) }
+        ensures valid { IfOk result (IsStart self.new) }
+        ensures same { OnOk result (state_of self.new ≡ state_of self.old) }
+    {
+        let name = self.word(Terminal::Named(Place::TransitionHead))?;
+        let Some(sym) = self.signature.find(name) else {
+            return Ok(Start::State(self.take_state(name)?));
+        };
+        let arity = self.signature.arity(sym).unwrap();
+        let args = Seq::new(self.alloc);
+        self.advance();
+        Ok(Start::Symbol(Node { sym, arity, args }))
+    }
+
+    /// What follows the state from which an epsilon transition goes; the transition is added.
+    fn move_from(&mut self, from: u32) -> Result<(), SpecError>
+        requires inside { IsInAutomaton self.old }
+        requires start { IsLoneState self.old from }
+        ensures no_longer { OnOk result (NoLonger self.old self.new) }
+        ensures reads { Reads behind_head (from_state from) self.old result closed self.new }
+        ensures inside { OnOk result (IsInAutomaton self.new) }
+    {
+        self.mark(Terminal::Arrow)?;
+        let to = self.state(Place::TransitionTarget)?;
+        self.add_epsilon(from, to)?;
+        Ok(())
+    }
+
+    /// What follows the symbol of a transition, which is added.
+    fn move_up(&mut self, mut node: Node) -> Result<(), SpecError>
+        requires inside { IsInAutomaton self.old }
+        requires start { IsNewNode self.old node }
+        ensures no_longer { OnOk result (NoLonger self.old self.new) }
+        ensures reads { Reads behind_head (begun node.sym node.arity) self.old result closed self.new }
+        ensures inside { OnOk result (IsInAutomaton self.new) }
+    {
+        self.arguments(&mut node)?;
+        self.mark(Terminal::Arrow)?;
+        let to = self.state(Place::TransitionTarget)?;
+        let args = Args::from_slice(self.alloc, node.args.as_slice())?;
+        self.add_transition(Trans {
+            sym: node.sym,
+            args,
+            to,
+        })?;
+        Ok(())
+    }
+
+    /// Adds an epsilon transition to the automaton that is being read. The only error is want of memory.
+    fn add_epsilon(&mut self, from: u32, to: u32) -> Result<(), AllocError>
+        requires inside { IsInAutomaton self.old }
+        requires from_below { from < length (states_of self.old) }
+        requires to_below { to < length (states_of self.old) }
+        ensures ok { OnOk result (state_of self.new ≡ with_epsilon from to (state_of self.old)) }
+        ensures there { OnOk result (StaysThere self.old self.new) }
+    {
+        if self.automata == MAX_AUTOMATA {
+            self.second.eps.push((from, to))
+        } else {
+            self.initial.eps.push((from, to))
+        }
+    }
+
+    /// Adds a transition to the automaton that is being read. The only error is want of memory.
+    fn add_transition(&mut self, trans: Trans) -> Result<(), AllocError>
+        requires inside { IsInAutomaton self.old }
+        requires over { IsTrue (trans_are_over self.old.signature (trans ∷ [])) }
+        requires below { IsTrue (trans_are_below (length (states_of self.old)) (trans ∷ [])) }
+        ensures ok { OnOk result (state_of self.new ≡ with_trans trans (state_of self.old)) }
+        ensures there { OnOk result (StaysThere self.old self.new) }
+    {
+        if self.automata == MAX_AUTOMATA {
+            self.second.trans.push(trans)
+        } else {
+            self.initial.trans.push(trans)
+        }
+    }
+}
+
+// ---- the arguments of a transition
+
+impl<'s, 'a> Reader<'s, 'a> {
+    /// The arguments of a symbol, as many as its arity says, none in parentheses where that is 0. Another number of them is
+    /// refused as such.
+    fn arguments(&mut self, node: &mut Node) -> Result<(), SpecError>
+        requires { IsNewNode self.old node.old }
+        ensures no_longer { OnOk result (NoLonger self.old self.new) }
+        ensures reads { Reads (grammar.arguments (grammar.name place.TransitionArgument)) (begun node.old.sym node.old.arity) self.old result (argued node.new) self.new }
+        ensures symbol { OnOk result (SameSymbol node.old node.new) }
+        ensures node { OnOk result (IsNode self.new node.new) }
+        ensures full { OnOk result (length node.new.args ≡ node.new.arity) }
+        ensures same { OnOk result (state_of self.new ≡ state_of self.old) }
+    {
+        if node.arity == 0 {
+            return self.refuse_arity(Terminal::OpenParen);
+        }
+        self.first_argument(node)?;
+        while node.args.len() < node.arity as usize {
+            self.next_argument(node)?;
+        }
+        self.refuse_arity(Terminal::Comma)?;
+        self.take(Terminal::CloseParen)
+    }
+
+    /// Refuses this mark as one that tells of another number of arguments.
+    fn refuse_arity(&self, mark: Terminal) -> Result<(), SpecError>
+        ensures ok { OnOk result (sees mark self.now.tokens.now ≡ false) }
+        ensures err { IfErr result (Miscounts mark self.now) }
+    {
+        if self.sees(mark) {
+            return Err(self.refusal(SpecKind::WrongArity));
+        }
+        Ok(())
+    }
+
+    /// The first argument of a symbol that has some.
+    fn first_argument(&mut self, node: &mut Node) -> Result<(), SpecError>
+        requires new { IsNewNode self.old node.old }
+        requires some { 0 < node.old.arity }
+        ensures shorter { OnOk result (Shorter self.old self.new) }
+        ensures reads { Reads first_argument (begun node.old.sym node.old.arity) self.old result (arguing node.new) self.new }
+        ensures symbol { OnOk result (SameSymbol node.old node.new) }
+        ensures node { OnOk result (IsNode self.new node.new) }
+        ensures count { OnOk result (length node.new.args ≡ 1) }
+        ensures same { OnOk result (state_of self.new ≡ state_of self.old) }
+    {
+        if !self.sees(Terminal::OpenParen) {
+            return Err(self.refusal(SpecKind::WrongArity));
+        }
+        self.advance();
+        self.argument(node)
+    }
+
+    /// A further argument of a symbol that lacks some.
+    fn next_argument(&mut self, node: &mut Node) -> Result<(), SpecError>
+        requires node { IsNode self.old node.old }
+        requires room { length node.old.args < node.old.arity }
+        ensures shorter { OnOk result (Shorter self.old self.new) }
+        ensures reads { Reads next_argument (arguing node.old) self.old result (arguing node.new) self.new }
+        ensures symbol { OnOk result (SameSymbol node.old node.new) }
+        ensures node { OnOk result (IsNode self.new node.new) }
+        ensures count { OnOk result (length node.new.args ≡ length node.old.args + 1) }
+        ensures same { OnOk result (state_of self.new ≡ state_of self.old) }
+    {
+        self.refuse_arity(Terminal::CloseParen)?;
+        self.take(Terminal::Comma)?;
+        self.argument(node)
+    }
+
+    /// The state of an argument, which is added to those of a symbol that lacks some. A `)` is refused as one after too few.
+    fn argument(&mut self, node: &mut Node) -> Result<(), SpecError>
+        requires node { IsNode self.old node.old }
+        requires room { length node.old.args < node.old.arity }
+        ensures shorter { OnOk result (Shorter self.old self.new) }
+        ensures reads { Reads (grammar.name place.TransitionArgument) (arguing node.old) self.old result (arguing node.new) self.new }
+        ensures symbol { OnOk result (SameSymbol node.old node.new) }
+        ensures node { OnOk result (IsNode self.new node.new) }
+        ensures count { OnOk result (length node.new.args ≡ length node.old.args + 1) }
+        ensures same { OnOk result (state_of self.new ≡ state_of self.old) }
+    {
+        self.refuse_arity(Terminal::CloseParen)?;
+        let state = self.state(Place::TransitionArgument)?;
+        node.args.push(state)?;
+        Ok(())
     }
 }
