@@ -23,7 +23,7 @@ use Rattle.timbuk_lex.specs.declared.lex.Ending.{Ending}
 use Rattle.timbuk_lex.specs.declared.lex.Ending.TheVariants.{Whole, Stopped}
 use Rattle.timbuk_reader.specs.Rows.{row, end_row}
 use Rattle.timbuk_reader.specs.Reading.{Outcome, End, outcome, ends_by, end_by, unless, behind, added, terminal_of}
-use Rattle.timbuk_reader.specs.View.{Open, closed, declared, end_of, from, as_error, sees}
+use Rattle.timbuk_reader.specs.View.{Open, closed, declared, end_of, settled, from, as_error, sees}
 use Rattle.timbuk_reader.specs.Reads.{Leads, Stops, Reads, Turns}
 
 -- ---- open parts that go on alike
@@ -143,7 +143,7 @@ module _ (a : Part) (t : Terminal) (h : Head a t) (end : End) (d : Declared) whe
 -- ---- one part, and then another
 
 run_both : (a b : Part) (o : Open) (ps : List Part) (r : Reader) → from o ((a then b) ∷ ps) r ≡ from o (a ∷ b ∷ ps) r
-run_both a b o ps r = alike ((a then b) ∷ ps) (a ∷ b ∷ ps) (end_of r) (declared o r) r.tokens.now (both_alike a b ps)
+run_both a b o ps r = ap settled (alike ((a then b) ∷ ps) (a ∷ b ∷ ps) (end_of r) (declared o r) r.tokens.now (both_alike a b ps))
 
 pub then_leads : (a b : Part) (o p q : Open) (r m u : Reader) → Leads a o r p m → Leads b p m q u → Leads (a then b) o r q u
 then_leads a b o p q r m u h k = record { by = λ ps. run_both a b o ps r ∙ h.by (b ∷ ps) ∙ k.by ps }
@@ -165,21 +165,21 @@ pub turns_start : (p : Part) (r : Reader) → Turns p r p r
 turns_start p r = record { by = λ ps. refl }
 
 pub turns_again : (a : Part) (t : Terminal) (r m u : Reader) → Turns (many a) r (many a) m → Head a t → sees t m.tokens.now ≡ true → Leads a closed m closed u → Turns (many a) r (many a) u
-turns_again a t r m u k h e l = record { by = λ ps. k.by ps ∙ many_take a t h (end_of m) (declared closed m) ps m.tokens.now e ∙ l.by (many a ∷ ps) }
+turns_again a t r m u k h e l = record { by = λ ps. k.by ps ∙ ap settled (many_take a t h (end_of m) (declared closed m) ps m.tokens.now e) ∙ l.by (many a ∷ ps) }
 
 pub turns_stop : (a : Part) (t : Terminal) (r m : Reader) → Turns (many a) r (many a) m → Head a t → sees t m.tokens.now ≡ false → Leads (many a) closed r closed m
-turns_stop a t r m k h e = record { by = λ ps. k.by ps ∙ many_skip a t h (end_of m) (declared closed m) ps m.tokens.now e }
+turns_stop a t r m k h e = record { by = λ ps. k.by ps ∙ ap settled (many_skip a t h (end_of m) (declared closed m) ps m.tokens.now e) }
 
 pub turns_err : (a : Part) (t : Terminal) (r m : Reader) (e : SpecError) → Turns (many a) r (many a) m → Head a t → sees t m.tokens.now ≡ true → Stops a closed m e → Stops (many a) closed r e
-turns_err a t r m e k h s l = record { by = λ ne ps. ap as_error (k.by ps ∙ many_take a t h (end_of m) (declared closed m) ps m.tokens.now s) ∙ l.by ne (many a ∷ ps) }
+turns_err a t r m e k h s l = record { by = λ ne ps. ap as_error (k.by ps ∙ ap settled (many_take a t h (end_of m) (declared closed m) ps m.tokens.now s)) ∙ l.by ne (many a ∷ ps) }
 
 -- ---- a part at most once
 
 pub maybe_leads : (a : Part) (t : Terminal) (o q : Open) (r u : Reader) → Head a t → sees t r.tokens.now ≡ true → Leads a o r q u → Leads (maybe a) o r q u
-maybe_leads a t o q r u h e k = record { by = λ ps. maybe_take a t h (end_of r) (declared o r) ps r.tokens.now e ∙ k.by ps }
+maybe_leads a t o q r u h e k = record { by = λ ps. ap settled (maybe_take a t h (end_of r) (declared o r) ps r.tokens.now e) ∙ k.by ps }
 
 pub maybe_stops : (a : Part) (t : Terminal) (o : Open) (r : Reader) (e : SpecError) → Head a t → sees t r.tokens.now ≡ true → Stops a o r e → Stops (maybe a) o r e
-maybe_stops a t o r e h s k = record { by = λ ne ps. ap as_error (maybe_take a t h (end_of r) (declared o r) ps r.tokens.now s) ∙ k.by ne ps }
+maybe_stops a t o r e h s k = record { by = λ ne ps. ap as_error (ap settled (maybe_take a t h (end_of r) (declared o r) ps r.tokens.now s)) ∙ k.by ne ps }
 
 -- the part, where its result is handed on
 pub maybe_reads : {X : Type 0} (a : Part) (t : Terminal) (o q : Open) (r u : Reader) (result : Result X SpecError) → Head a t → sees t r.tokens.now ≡ true → Reads a o r result q u → Reads (maybe a) o r result q u
@@ -187,4 +187,4 @@ maybe_reads a t o q r u (Ok x) h e k = maybe_leads a t o q r u h e k
 maybe_reads a t o q r u (Err x) h e k = maybe_stops a t o r x h e k
 
 pub maybe_none : (a : Part) (t : Terminal) (o : Open) (r : Reader) → Head a t → sees t r.tokens.now ≡ false → Leads (maybe a) o r o r
-maybe_none a t o r h e = record { by = λ ps. maybe_skip a t h (end_of r) (declared o r) ps r.tokens.now e }
+maybe_none a t o r h e = record { by = λ ps. ap settled (maybe_skip a t h (end_of r) (declared o r) ps r.tokens.now e) }

@@ -28,7 +28,7 @@ use Rattle.timbuk_reader.specs.declared.state.Reader.{Reader}
 use Rattle.timbuk_reader.specs.Declarations.{Text as Bytes, Declared, any, adds}
 use Rattle.timbuk_reader.specs.Rows.{row, or, when, is_closed_word, wrong_arity, unexpected_after, expected, at_terminal, passed, misnamed, long_name, end_row}
 use Rattle.timbuk_reader.specs.Reading.{Outcome, End, fault, outcome, ends_by, end_by, unless, behind, added, terminal_of}
-use Rattle.timbuk_reader.specs.View.{Open, closed, naming, declared, inside, state_of, end_of, end_fault, from, as_error, sees, told, refusal_at, refusal}
+use Rattle.timbuk_reader.specs.View.{Open, closed, naming, declared, inside, state_of, end_of, end_fault, settled, from, as_error, sees, told, refusal_at, refusal}
 use Rattle.timbuk_reader.specs.Reads.{Leads, Stops, Reads, IsCalm, IsMark, IsWordly, Took, Takes, Missed, Stands, IsLong, HasNoWord, missed, long}
 use Rattle.timbuk_reader.proofs.Steps.{Front, choice_seen, choice_unseen, one_front}
 
@@ -269,16 +269,16 @@ mark_on t ps end d x rest m e f h =
 pub mark_leads : (t : Terminal) (o : Open) (r u : Reader) → IsMark t → IsCalm o → Took t r u → Leads (one t) o r o u
 mark_leads t o r u m h k = record {
   by = λ ps.
-      ap (outcome (end_of r) (one t ∷ ps) (declared o r)) k.tokens
+      ap settled (ap (outcome (end_of r) (one t ∷ ps) (declared o r)) k.tokens
       ∙ mark_on t ps (end_of r) (declared o r) k.token u.tokens.now m h.applications h.last k.matched
-      ∙ (λ i. outcome (sym k.end i) ps (sym (declared_same o r u k.state) i) u.tokens.now);
+      ∙ (λ i. outcome (sym k.end i) ps (sym (declared_same o r u k.state) i) u.tokens.now));
 }
 
 -- a terminal was not there
 pub mark_stops : (t : Terminal) (o : Open) (r : Reader) (e : SpecError) → IsCalm o → Missed t r e → Stops (one t) o r e
 mark_stops t o r e h k = record {
   by = λ ne ps.
-      ap as_error (step_missed (one t ∷ ps) t ps (end_of r) (declared o r) r.tokens.now (one_front t ps) k.unseen (λ x. calm_arity (declared o r) x h.applications h.last)) ∙ ap Err (sym k.told);
+      ap (λ z. as_error (settled z)) (step_missed (one t ∷ ps) t ps (end_of r) (declared o r) r.tokens.now (one_front t ps) k.unseen (λ x. calm_arity (declared o r) x h.applications h.last)) ∙ ap Err (sym k.told);
 }
 
 pub closed_calm : IsCalm closed
@@ -311,10 +311,10 @@ word_leads t o q r u text x w h k n tokens end state = record {
   by = λ ps.
       let same : k.rest ≡ u.tokens.now = let e = sym k.tokens ∙ tokens in cc in
       let d = declared o r in
-      ap (outcome (end_of r) (one t ∷ ps) d) k.tokens
+      ap settled (ap (outcome (end_of r) (one t ∷ ps) d) k.tokens
       ∙ step_on (one t ∷ ps) t ps (end_of r) d k.token k.rest (one_front t ps) k.matched (word_row t d k.token w h.applications h.last k.matched ∙ ap (λ z. use_row t z d) k.text_is ∙ n)
       ∙ (λ i. outcome (sym end i) ps (adds t (k.text_is i) d) (same i))
-      ∙ ap (λ z. outcome (end_of u) ps z u.tokens.now) (sym state);
+      ∙ ap (λ z. outcome (end_of u) ps z u.tokens.now) (sym state));
 }
 
 -- a word is refused
@@ -322,7 +322,7 @@ pub word_stops : (t : Terminal) (o : Open) (r : Reader) (text : Bytes) (k : Spec
 word_stops t o r text k e w h s n told = record {
   by = λ ne ps.
       let d = declared o r in
-      ap as_error (ap (outcome (end_of r) (one t ∷ ps) d) s.tokens
+      ap (λ z. as_error (settled z)) (ap (outcome (end_of r) (one t ∷ ps) d) s.tokens
       ∙ step_fault (one t ∷ ps) t ps (end_of r) d s.token s.rest k (one_front t ps) s.matched (word_row t d s.token w h.applications h.last s.matched ∙ ap (λ z. use_row t z d) s.text_is ∙ n)
       ∙ ap (λ xs. Err (refusal_at k (end_of r) xs)) (sym s.tokens)) ∙ ap Err (sym told);
 }
@@ -339,7 +339,7 @@ no_word_stops t o r e w h (missed m) = mark_stops t o r e h m
 no_word_stops t o r e w h (long l told) = record {
   by = λ ne ps.
       let d = declared o r in
-      ap as_error (ap (outcome (end_of r) (one t ∷ ps) d) l.tokens
+      ap (λ z. as_error (settled z)) (ap (outcome (end_of r) (one t ∷ ps) d) l.tokens
       ∙ step_fault (one t ∷ ps) t ps (end_of r) d l.token l.rest (kind.Limit limit.NameBytes) (one_front t ps) l.matched (word_row t d l.token w h.applications h.last l.matched ∙ long_row t l.token.text d w l.long)
       ∙ ap (λ xs. Err (refusal_at (kind.Limit limit.NameBytes) (end_of r) xs)) (sym l.tokens)) ∙ ap Err (sym told);
 }

@@ -87,9 +87,14 @@ state_of r = declared closed r
 abbrev pub end_of : Reader → End
 end_of r = record { ending = r.ending; line = r.line; column = r.column }
 
+-- what a whole text declares, whatever its last token was
+abbrev pub settled : Outcome → Outcome
+settled (Ok d) = Ok (record d { last = any })
+settled (Err f) = Err f
+
 -- what the text declares from here on, or its first fault, where these parts are open
 abbrev pub from : Open → List Part → Reader → Outcome
-from o ps r = outcome (end_of r) ps (declared o r) r.tokens.now
+from o ps r = settled (outcome (end_of r) ps (declared o r) r.tokens.now)
 
 -- a fault as an error
 abbrev pub as_error : Outcome → Result Declared SpecError

@@ -1,0 +1,129 @@
+-- Reading a pattern, at any depth.
+use Rattle.std.specs.Prelude.{◌≡◌, ◌≢◌, ◌<◌, ◌≤◌, ℕ, true, false, List, [], ◌∷◌, ◌++◌, length, Result, Ok, Err}
+use Rattle.ranked_terms.specs.declared.term.Shape.{Shape}
+use Rattle.ranked_terms.specs.declared.term.Shape.TheVariants as shape
+use Rattle.timbuk_grammar.specs.declared.terminal.Place.{Place}
+use Rattle.timbuk_grammar.specs.declared.terminal.Place.TheVariants as place
+use Rattle.timbuk_grammar.specs.declared.terminal.Terminal.TheVariants as terminal
+use Rattle.timbuk_grammar.specs.Grammar.{Part, one, many, ◌then◌, pattern, pattern_arguments}
+use Rattle.timbuk_reader.specs.declared.fault.SpecKind.TheVariants as kind
+use Rattle.timbuk_reader.specs.declared.fault.SpecError.{SpecError}
+use Rattle.timbuk_reader.specs.declared.fault.SpecError.TheVariants as error
+use Rattle.timbuk_reader.specs.declared.state.Reader.{Reader}
+use Rattle.timbuk_reader.specs.Declarations.{Declared, Application, Last, any, function, has, with_variable, placed}
+use Rattle.timbuk_reader.specs.Reading.{Outcome, outcome}
+use Rattle.timbuk_reader.specs.View.{Open, closed, declared, end_of, settled, from, as_error, refusal, sees}
+use Rattle.timbuk_reader.specs.Reads.{Missed}
+
+-- the places of patterns
+abbrev pub IsPatternPlace : Place → Type 0
+IsPatternPlace place.LeftSide = Unit {0}
+IsPatternPlace place.RightSide = Unit {0}
+IsPatternPlace place.EquationLeft = Unit {0}
+IsPatternPlace place.EquationRight = Unit {0}
+IsPatternPlace place.EntryWhole = Unit {0}
+IsPatternPlace _ = ⊥
+
+-- these applications are open, the innermost first, and these sides of the declaration are whole
+abbrev pub within : List Application → List Shape → Open
+within applications shapes = record closed { applications = applications; shapes = shapes }
+
+-- the innermost application lacks an argument
+abbrev pub HasRoom : List Application → Type 0
+HasRoom [] = Unit {0}
+HasRoom (a ∷ outer) = length a.args < a.arity
+
+-- no side stands before a left side
+abbrev pub IsFirstSide : Place → List Shape → Type 0
+IsFirstSide place.LeftSide shapes = shapes ≡ []
+IsFirstSide place.EquationLeft shapes = shapes ≡ []
+IsFirstSide _ shapes = Unit {0}
+
+-- a pattern may stand below so many applications
+pub record IsSpot (p : Place) (depth : ℕ) (applications : List Application) (shapes : List Shape) : Type 0 where
+  pub depth_is : length applications ≡ depth
+  pub room : HasRoom applications
+  pub first : IsFirstSide p shapes
+
+-- what is read behind a whole pattern
+abbrev pub placed_from : Place → List Part → Shape → List Application → List Shape → Reader → Outcome
+placed_from p ps s applications shapes r = settled (outcome (end_of r) ps (record (placed p s (declared (within applications shapes) r)) { last = any }) r.tokens.now)
+
+-- a pattern was read
+pub record Builds (p : Place) (depth : ℕ) (old : Reader) (s : Shape) (new : Reader) : Type 0 where
+  pub by : (ps : List Part) (applications : List Application) (shapes : List Shape) → IsSpot p depth applications shapes
+    → from (within applications shapes) (pattern p ∷ ps) old ≡ placed_from p ps s applications shapes new
+
+-- a pattern has the first fault
+pub record Breaks (p : Place) (depth : ℕ) (old : Reader) (e : SpecError) : Type 0 where
+  pub by : e ≢ error.Memory → (ps : List Part) (applications : List Application) (shapes : List Shape) → IsSpot p depth applications shapes
+    → as_error (from (within applications shapes) (pattern p ∷ ps) old) ≡ Err e
+
+abbrev pub BuildsAt : Place → ℕ → Reader → Result Shape SpecError → Reader → Type 0
+BuildsAt p depth old (Ok s) new = Builds p depth old s new
+BuildsAt p depth old (Err e) new = Breaks p depth old e
+
+-- ---- arguments
+
+abbrev pub application : Place → ℕ → ℕ → List Shape → Application
+application p f n args = record { place = p; sym = f; arity = n; args = args }
+
+-- what is read behind the name of a symbol with arguments
+abbrev pub applied_from : Place → ℕ → ℕ → List Part → List Application → List Shape → Reader → Outcome
+applied_from p f n ps applications shapes r = from (record (within (application p f n [] ∷ applications) shapes) { last = function }) (pattern_arguments p ∷ ps) r
+
+-- its arguments were read
+pub record Applies (p : Place) (f n depth : ℕ) (old : Reader) (args : List Shape) (new : Reader) : Type 0 where
+  pub by : (ps : List Part) (applications : List Application) (shapes : List Shape) → length applications ≡ depth → IsFirstSide p shapes
+    → applied_from p f n ps applications shapes old ≡ placed_from p ps (shape.App f args) applications shapes new
+
+-- its arguments have the first fault
+pub record Misapplies (p : Place) (f n depth : ℕ) (old : Reader) (e : SpecError) : Type 0 where
+  pub by : e ≢ error.Memory → (ps : List Part) (applications : List Application) (shapes : List Shape) → length applications ≡ depth → IsFirstSide p shapes
+    → as_error (applied_from p f n ps applications shapes old) ≡ Err e
+
+abbrev pub AppliesAll : Place → ℕ → ℕ → ℕ → Reader → Result (List Shape) SpecError → Reader → Type 0
+AppliesAll p f n depth old (Ok args) new = Applies p f n depth old args new
+AppliesAll p f n depth old (Err e) new = Misapplies p f n depth old e
+
+-- what may stand behind an argument
+abbrev pub behind : Place → Part
+behind p = many (one terminal.Comma then pattern p) then one terminal.CloseParen
+
+abbrev pub filled_from : Place → ℕ → ℕ → List Shape → List Part → List Application → List Shape → Reader → Outcome
+filled_from p f n args ps applications shapes r = from (within (application p f n args ∷ applications) shapes) (behind p ∷ ps) r
+
+-- so many arguments were read
+pub record Filled (p : Place) (f n depth : ℕ) (old : Reader) (args : List Shape) (new : Reader) : Type 0 where
+  pub by : (ps : List Part) (applications : List Application) (shapes : List Shape) → length applications ≡ depth → IsFirstSide p shapes
+    → applied_from p f n ps applications shapes old ≡ filled_from p f n args ps applications shapes new
+
+-- ---- marks between arguments
+
+-- no argument begins, though the symbol has some
+pub record LacksArguments (r : Reader) (e : SpecError) : Type 0 where
+  pub unseen : sees terminal.OpenParen r.tokens.now ≡ false
+  pub told : e ≡ error.Fault (refusal kind.WrongArity r)
+
+-- no further argument begins
+pub data LacksArgument (r : Reader) (e : SpecError) : Type 0 where
+  too_few : sees terminal.CloseParen r.tokens.now ≡ true → e ≡ error.Fault (refusal kind.WrongArity r) → LacksArgument r e
+  no_comma : sees terminal.CloseParen r.tokens.now ≡ false → Missed terminal.Comma r e → LacksArgument r e
+
+-- the arguments do not end
+pub data LacksEnd (r : Reader) (e : SpecError) : Type 0 where
+  too_many : sees terminal.Comma r.tokens.now ≡ true → e ≡ error.Fault (refusal kind.WrongArity r) → LacksEnd r e
+  no_end : sees terminal.Comma r.tokens.now ≡ false → Missed terminal.CloseParen r e → LacksEnd r e
+
+-- ---- variables
+
+-- the variable may stand where these were bound before
+abbrev pub MayStand : Place → List ℕ → ℕ → Type 0
+MayStand place.LeftSide bound v = has bound v ≡ false
+MayStand place.RightSide bound v = has bound v ≡ true
+MayStand _ bound v = Unit {0}
+
+-- The variables of a pattern, one after the other, may stand there, and these are bound in the end.
+abbrev pub Binds : Place → List ℕ → List ℕ → List ℕ → Type 0
+Binds p old [] new = new ≡ old
+Binds p old (v ∷ vs) new = MayStand p old v × Binds p (with_variable old v) vs new
