@@ -11,3 +11,5 @@ pub mod View
 pub mod Reads
 pub mod Kept
 pub mod Patterns
+pub mod Meanings
+pub mod AutomatonReads

@@ -1,17 +1,18 @@
 //! Reads automata.
-ghost use Rattle.std.specs.Prelude.{◌≡◌, ◌<◌, ◌+◌, ◌∷◌, [], IsTrue, IfOk, IfErr, OnOk, length, position};
-ghost use Rattle.std.specs.Str.{bytes_eq};
+ghost use Rattle.std.specs.Prelude.{◌≡◌, ◌<◌, [], false, IsTrue, IfOk, IfErr, OnOk, length};
+ghost use Rattle.ranked_terms.specs.Terms.{is_symbol};
 ghost use Rattle.timbuk_grammar.specs.Grammar as grammar;
 ghost use Rattle.timbuk_grammar.specs.declared.terminal.Place.TheVariants as place;
 ghost use Rattle.timbuk_grammar.specs.declared.terminal.Terminal.TheVariants as terminal;
-ghost use Rattle.timbuk_reader.specs.Declarations.{no_automaton, uses, adds};
+ghost use Rattle.timbuk_reader.specs.Declarations.{no_automaton, state_head, symbol_head, uses, adds};
 ghost use Rattle.timbuk_reader.specs.Rows.{is_in};
-ghost use Rattle.timbuk_reader.specs.Kept.{trans_are_over, trans_are_below};
-ghost use Rattle.timbuk_reader.specs.View.{Shorter, closed, started, state_of, sees};
-ghost use Rattle.timbuk_reader.specs.Reads.{Leads, Stops, Reads};
-ghost use Rattle.timbuk_reader.specs.AutomatonReads.{IsInAutomaton, NoLonger, StaysThere, MayDeclare, UsesState, states_of, table_of, no_arity, described, prior, behind_head, first_argument, next_argument, from_state, begun, arguing, argued, opened, IsNode, IsNewNode, IsLoneState, IsStart, SameSymbol, TookState, LacksState, ReadState, StopsState, Miscounts, with_trans, with_epsilon};
+ghost use Rattle.timbuk_reader.specs.Kept.{states_are_below};
+ghost use Rattle.timbuk_reader.specs.View.{Shorter, closed, started, state_of};
+ghost use Rattle.timbuk_reader.specs.Reads.{Reads};
+ghost use Rattle.timbuk_reader.specs.AutomatonReads.{no_arity, described, prior, target, IsInAutomaton, states_of, with_trans, with_epsilon, NoLonger, StaysThere, MayDeclare, table_of, UsesState, ReadState, StopsState, headed, ReadArgument, StopsArgument, ReadArguments, StopsArguments};
 
 use crate::fault::{LimitName, SpecError, SpecKind};
+use crate::meaning::Meaning;
 use crate::names::NameTable;
 use crate::state::{Reader, StartedAutomaton};
 use ranked_terms::Seq;
@@ -21,23 +22,6 @@ use timbuk_grammar::{Place, Terminal};
 
 /// The largest number of automata.
 const MAX_AUTOMATA: u32 = 2;
-
-/// What a transition starts with.
-#[derive(Drop)]
-enum Start {
-    /// A state: the transition is an epsilon transition.
-    State(u32),
-    /// A symbol.
-    Symbol(Node),
-}
-
-/// The symbol of a transition, with those of its arguments that were read.
-#[derive(Drop)]
-struct Node {
-    sym: u32,
-    arity: u32,
-    args: Seq<u32>,
-}
 
 impl StartedAutomaton {
     /// The automaton of which nothing is declared. It takes no memory yet, and grows by `alloc`.
@@ -215,37 +199,11 @@ impl<'s, 'a> Reader<'s, 'a> {
         ensures same { OnOk result (state_of self.new ≡ state_of self.old) }
     {
         let name = self.word(Terminal::Named(place))?;
-        self.take_state(name)
-    }
-
-    /// Takes the next token, the name of a state, and gives the state's number. Another name is refused as unknown, and a
-    /// `(` behind the name as not expected.
-    fn take_state(&mut self, name: &str) -> Result<u32, SpecError>
-        requires { 0 < length self.old.tokens.now }
-        ensures shorter { OnOk result (Shorter self.old self.new) }
-        ensures ok { IfOk result (λ state. TookState name.now self.old state self.new) }
-        ensures err { IfErr result (LacksState name.now self.old) }
-        ensures below { IfOk result (λ state. state < length (states_of self.new)) }
-    {
-        let Some(state) = self.find_state(name) else {
+        let Meaning::State(state) = self.meaning(place, name) else {
             return Err(self.refusal(SpecKind::UnknownName));
         };
-        self.advance();
-        if self.sees(Terminal::OpenParen) {
-            return Err(self.refusal(SpecKind::Expected));
-        }
+        self.leaf(SpecKind::Expected)?;
         Ok(state)
-    }
-
-    /// The number of the state of this name in the automaton that is being read. `None` exactly where it has none.
-    fn find_state(&self, name: &str) -> Option<u32>
-        ensures { result ≡ position (bytes_eq name.now) (states_of self.now) }
-    {
-        if self.automata == MAX_AUTOMATA {
-            self.second.states.find(name)
-        } else {
-            self.initial.states.find(name)
-        }
     }
 
     /// The descriptions of states, if there are any, which have no effect.
@@ -377,44 +335,40 @@ impl<'s, 'a> Reader<'s, 'a> {
         Ok(())
     }
 
-    /// A transition or an epsilon transition, which is added.
+    /// A transition from a symbol with its arguments, or an epsilon transition from a state of the automaton. Another name at
+    /// its head is refused as unknown, a `(` behind a state as not expected, and one behind a symbol without arguments as
+    /// another number of them.
     fn transition(&mut self) -> Result<(), SpecError>
         requires { IsInAutomaton self.old }
         ensures shorter { OnOk result (Shorter self.old self.new) }
         ensures reads { Reads grammar.transition closed self.old result closed self.new }
         ensures inside { OnOk result (IsInAutomaton self.new) }
     {
-        match self.start()? {
-            Start::State(from) => self.move_from(from),
-            Start::Symbol(node) => self.move_up(node),
+        let name = self.word(Terminal::Named(Place::TransitionHead))?;
+        match self.meaning(Place::TransitionHead, name) {
+            Meaning::State(from) => {
+                self.leaf(SpecKind::Expected)?;
+                self.move_from(from)
+            }
+            Meaning::Symbol(sym, 0) => {
+                self.leaf(SpecKind::WrongArity)?;
+                self.move_up(sym, Seq::new(self.alloc))
+            }
+            Meaning::Symbol(sym, arity) => {
+                self.advance();
+                let args = self.transition_arguments(arity)?;
+                self.move_up(sym, args)
+            }
+            Meaning::Variable(_) | Meaning::Unknown => Err(self.refusal(SpecKind::UnknownName)),
         }
     }
 
-    /// The name with which a transition starts, a symbol or a state of the automaton. Another name is refused as unknown, and
-    /// a `(` behind a state as not expected.
-    fn start(&mut self) -> Result<Start, SpecError>
-        ensures shorter { OnOk result (Shorter self.old self.new) }
-        ensures ok { IfOk result (λ start. Leads (grammar.name place.TransitionHead) closed self.old (opened start) self.new) }
-        ensures err { IfErr result (Stops (grammar.name place.TransitionHead) closed self.old) }
-        ensures valid { IfOk result (IsStart self.new) }
-        ensures same { OnOk result (state_of self.new ≡ state_of self.old) }
-    {
-        let name = self.word(Terminal::Named(Place::TransitionHead))?;
-        let Some(sym) = self.signature.find(name) else {
-            return Ok(Start::State(self.take_state(name)?));
-        };
-        let arity = self.signature.arity(sym).unwrap();
-        let args = Seq::new(self.alloc);
-        self.advance();
-        Ok(Start::Symbol(Node { sym, arity, args }))
-    }
-
-    /// What follows the state from which an epsilon transition goes; the transition is added.
+    /// The target of an epsilon transition from this state, which is added.
     fn move_from(&mut self, from: u32) -> Result<(), SpecError>
         requires inside { IsInAutomaton self.old }
-        requires start { IsLoneState self.old from }
+        requires below { from < length (states_of self.old) }
         ensures no_longer { OnOk result (NoLonger self.old self.new) }
-        ensures reads { Reads behind_head (from_state from) self.old result closed self.new }
+        ensures reads { Reads target (headed (state_head from) []) self.old result closed self.new }
         ensures inside { OnOk result (IsInAutomaton self.new) }
     {
         self.mark(Terminal::Arrow)?;
@@ -423,23 +377,19 @@ impl<'s, 'a> Reader<'s, 'a> {
         Ok(())
     }
 
-    /// What follows the symbol of a transition, which is added.
-    fn move_up(&mut self, mut node: Node) -> Result<(), SpecError>
+    /// The target of a transition from this symbol with these arguments, which is added.
+    fn move_up(&mut self, sym: u32, args: Seq<u32>) -> Result<(), SpecError>
         requires inside { IsInAutomaton self.old }
-        requires start { IsNewNode self.old node }
+        requires over { IsTrue (is_symbol self.old.signature sym (length args)) }
+        requires below { IsTrue (states_are_below (length (states_of self.old)) args) }
         ensures no_longer { OnOk result (NoLonger self.old self.new) }
-        ensures reads { Reads behind_head (begun node.sym node.arity) self.old result closed self.new }
+        ensures reads { Reads target (headed (symbol_head sym) args) self.old result closed self.new }
         ensures inside { OnOk result (IsInAutomaton self.new) }
     {
-        self.arguments(&mut node)?;
         self.mark(Terminal::Arrow)?;
         let to = self.state(Place::TransitionTarget)?;
-        let args = Args::from_slice(self.alloc, node.args.as_slice())?;
-        self.add_transition(Trans {
-            sym: node.sym,
-            args,
-            to,
-        })?;
+        let args = Args::from_slice(self.alloc, args.as_slice())?;
+        self.add_transition(Trans { sym, args, to })?;
         Ok(())
     }
 
@@ -461,8 +411,9 @@ impl<'s, 'a> Reader<'s, 'a> {
     /// Adds a transition to the automaton that is being read. The only error is want of memory.
     fn add_transition(&mut self, trans: Trans) -> Result<(), AllocError>
         requires inside { IsInAutomaton self.old }
-        requires over { IsTrue (trans_are_over self.old.signature (trans ∷ [])) }
-        requires below { IsTrue (trans_are_below (length (states_of self.old)) (trans ∷ [])) }
+        requires over { IsTrue (is_symbol self.old.signature trans.sym (length trans.args)) }
+        requires below { IsTrue (states_are_below (length (states_of self.old)) trans.args) }
+        requires to_below { trans.to < length (states_of self.old) }
         ensures ok { OnOk result (state_of self.new ≡ with_trans trans (state_of self.old)) }
         ensures there { OnOk result (StaysThere self.old self.new) }
     {
@@ -472,92 +423,40 @@ impl<'s, 'a> Reader<'s, 'a> {
             self.initial.trans.push(trans)
         }
     }
-}
 
-// ---- the arguments of a transition
-
-impl<'s, 'a> Reader<'s, 'a> {
-    /// The arguments of a symbol, as many as its arity says, none in parentheses where that is 0. Another number of them is
+    /// The arguments of a symbol of this arity, which are states of the automaton, in parentheses. Another number of them is
     /// refused as such.
-    fn arguments(&mut self, node: &mut Node) -> Result<(), SpecError>
-        requires { IsNewNode self.old node.old }
+    fn transition_arguments(&mut self, arity: u32) -> Result<Seq<u32>, SpecError>
+        requires { 0 < arity }
         ensures no_longer { OnOk result (NoLonger self.old self.new) }
-        ensures reads { Reads (grammar.arguments (grammar.name place.TransitionArgument)) (begun node.old.sym node.old.arity) self.old result (argued node.new) self.new }
-        ensures symbol { OnOk result (SameSymbol node.old node.new) }
-        ensures node { OnOk result (IsNode self.new node.new) }
-        ensures full { OnOk result (length node.new.args ≡ node.new.arity) }
+        ensures ok { IfOk result (λ args. ReadArguments arity self.old args self.new) }
+        ensures err { IfErr result (StopsArguments arity self.old) }
+        ensures count { IfOk result (λ args. length args ≡ arity) }
+        ensures below { IfOk result (λ args. IsTrue (states_are_below (length (states_of self.new)) args)) }
         ensures same { OnOk result (state_of self.new ≡ state_of self.old) }
     {
-        if node.arity == 0 {
-            return self.refuse_arity(Terminal::OpenParen);
+        let mut args = Seq::new(self.alloc);
+        self.first_argument()?;
+        args.push(self.transition_argument()?)?;
+        while args.len() < arity as usize {
+            self.next_argument()?;
+            args.push(self.transition_argument()?)?;
         }
-        self.first_argument(node)?;
-        while node.args.len() < node.arity as usize {
-            self.next_argument(node)?;
-        }
-        self.refuse_arity(Terminal::Comma)?;
-        self.take(Terminal::CloseParen)
+        self.last_argument()?;
+        Ok(args)
     }
 
-    /// Refuses this mark as one that tells of another number of arguments.
-    fn refuse_arity(&self, mark: Terminal) -> Result<(), SpecError>
-        ensures ok { OnOk result (sees mark self.now.tokens.now ≡ false) }
-        ensures err { IfErr result (Miscounts mark self.now) }
+    /// An argument of a symbol that lacks one. A `)` is refused as another number of arguments.
+    fn transition_argument(&mut self) -> Result<u32, SpecError>
+        ensures shorter { OnOk result (Shorter self.old self.new) }
+        ensures ok { IfOk result (λ state. ReadArgument self.old state self.new) }
+        ensures err { IfErr result (StopsArgument self.old) }
+        ensures below { IfOk result (λ state. state < length (states_of self.new)) }
+        ensures same { OnOk result (state_of self.new ≡ state_of self.old) }
     {
-        if self.sees(mark) {
+        if self.sees(Terminal::CloseParen) {
             return Err(self.refusal(SpecKind::WrongArity));
         }
-        Ok(())
-    }
-
-    /// The first argument of a symbol that has some.
-    fn first_argument(&mut self, node: &mut Node) -> Result<(), SpecError>
-        requires new { IsNewNode self.old node.old }
-        requires some { 0 < node.old.arity }
-        ensures shorter { OnOk result (Shorter self.old self.new) }
-        ensures reads { Reads first_argument (begun node.old.sym node.old.arity) self.old result (arguing node.new) self.new }
-        ensures symbol { OnOk result (SameSymbol node.old node.new) }
-        ensures node { OnOk result (IsNode self.new node.new) }
-        ensures count { OnOk result (length node.new.args ≡ 1) }
-        ensures same { OnOk result (state_of self.new ≡ state_of self.old) }
-    {
-        if !self.sees(Terminal::OpenParen) {
-            return Err(self.refusal(SpecKind::WrongArity));
-        }
-        self.advance();
-        self.argument(node)
-    }
-
-    /// A further argument of a symbol that lacks some.
-    fn next_argument(&mut self, node: &mut Node) -> Result<(), SpecError>
-        requires node { IsNode self.old node.old }
-        requires room { length node.old.args < node.old.arity }
-        ensures shorter { OnOk result (Shorter self.old self.new) }
-        ensures reads { Reads next_argument (arguing node.old) self.old result (arguing node.new) self.new }
-        ensures symbol { OnOk result (SameSymbol node.old node.new) }
-        ensures node { OnOk result (IsNode self.new node.new) }
-        ensures count { OnOk result (length node.new.args ≡ length node.old.args + 1) }
-        ensures same { OnOk result (state_of self.new ≡ state_of self.old) }
-    {
-        self.refuse_arity(Terminal::CloseParen)?;
-        self.take(Terminal::Comma)?;
-        self.argument(node)
-    }
-
-    /// The state of an argument, which is added to those of a symbol that lacks some. A `)` is refused as one after too few.
-    fn argument(&mut self, node: &mut Node) -> Result<(), SpecError>
-        requires node { IsNode self.old node.old }
-        requires room { length node.old.args < node.old.arity }
-        ensures shorter { OnOk result (Shorter self.old self.new) }
-        ensures reads { Reads (grammar.name place.TransitionArgument) (arguing node.old) self.old result (arguing node.new) self.new }
-        ensures symbol { OnOk result (SameSymbol node.old node.new) }
-        ensures node { OnOk result (IsNode self.new node.new) }
-        ensures count { OnOk result (length node.new.args ≡ length node.old.args + 1) }
-        ensures same { OnOk result (state_of self.new ≡ state_of self.old) }
-    {
-        self.refuse_arity(Terminal::CloseParen)?;
-        let state = self.state(Place::TransitionArgument)?;
-        node.args.push(state)?;
-        Ok(())
+        self.state(Place::TransitionArgument)
     }
 }
