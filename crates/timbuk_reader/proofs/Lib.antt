@@ -7,3 +7,5 @@ pub mod StepsNames
 pub mod ReaderFresh
 pub mod StepsLast
 pub mod ReaderMeanings
+pub mod ReaderAutomaton
+pub mod StepsAutomaton

@@ -69,6 +69,7 @@ impl<'s, 'a> Reader<'s, 'a> {
     }
 
     /// The name of a section, which has no effect. It is refused only as a name of more than 255 bytes.
+    #[tactic(auto, using(crate::proofs::StepsTokens::no_word_stops, crate::proofs::StepsTokens::closed_calm))]
     pub(crate) fn title(&mut self) -> Result<(), SpecError>
         ensures shorter { OnOk result (Shorter self.old self.new) }
         ensures reads { Reads (grammar.name place.Title) closed self.old result closed self.new }
@@ -172,6 +173,7 @@ impl<'s, 'a> Reader<'s, 'a> {
     }
 
     /// The arity 0 of a state, which may be left out.
+    #[tactic(auto, using(crate::proofs::Steps::then_reads, crate::proofs::Steps::then_stops, crate::proofs::Steps::then_head, crate::proofs::Steps::maybe_reads, crate::proofs::Steps::maybe_stops, crate::proofs::Steps::maybe_none))]
     fn no_arity(&mut self) -> Result<(), SpecError>
         ensures no_longer { OnOk result (NoLonger self.old self.new) }
         ensures reads { Reads no_arity closed self.old result closed self.new }
@@ -190,6 +192,7 @@ impl<'s, 'a> Reader<'s, 'a> {
 impl<'s, 'a> Reader<'s, 'a> {
     /// A state of the automaton, and its number. Another name is refused as unknown, and a `(` behind the name as not
     /// expected.
+    #[tactic(auto, using(crate::proofs::StepsAutomaton::no_state_word))]
     fn state(&mut self, place: Place) -> Result<u32, SpecError>
         requires { UsesState place }
         ensures shorter { OnOk result (Shorter self.old self.new) }
@@ -207,6 +210,7 @@ impl<'s, 'a> Reader<'s, 'a> {
     }
 
     /// The descriptions of states, if there are any, which have no effect.
+    #[tactic(auto, using(crate::proofs::Steps::then_reads, crate::proofs::Steps::then_stops, crate::proofs::Steps::then_head, crate::proofs::Steps::maybe_reads, crate::proofs::Steps::maybe_stops, crate::proofs::Steps::maybe_none))]
     fn description(&mut self) -> Result<(), SpecError>
         ensures no_longer { OnOk result (NoLonger self.old self.new) }
         ensures reads { Reads (grammar.maybe grammar.description) closed self.old result closed self.new }
@@ -220,6 +224,7 @@ impl<'s, 'a> Reader<'s, 'a> {
     }
 
     /// States with their descriptions, as many as there are.
+    #[tactic(auto, using(crate::proofs::Steps::turns_start, crate::proofs::Steps::turns_again, crate::proofs::Steps::turns_stop, crate::proofs::Steps::turns_err, crate::proofs::Steps::then_head))]
     fn all_described(&mut self) -> Result<(), SpecError>
         ensures no_longer { OnOk result (NoLonger self.old self.new) }
         ensures reads { Reads (grammar.many described) closed self.old result closed self.new }
@@ -232,6 +237,7 @@ impl<'s, 'a> Reader<'s, 'a> {
     }
 
     /// A state of the automaton with its description.
+    #[tactic(auto, using(crate::proofs::Steps::then_reads, crate::proofs::Steps::then_stops, crate::proofs::Steps::then_leads, crate::proofs::Steps::later_stops, crate::proofs::StepsAutomaton::described_leads, crate::proofs::StepsAutomaton::stops_closed))]
     fn described_state(&mut self) -> Result<(), SpecError>
         ensures shorter { OnOk result (Shorter self.old self.new) }
         ensures reads { Reads described closed self.old result closed self.new }
@@ -243,6 +249,7 @@ impl<'s, 'a> Reader<'s, 'a> {
     }
 
     /// The final states.
+    #[tactic(auto, using(crate::proofs::Steps::then_reads, crate::proofs::Steps::then_stops, crate::proofs::Steps::then_leads, crate::proofs::Steps::later_stops))]
     fn final_states(&mut self) -> Result<(), SpecError>
         requires { IsInAutomaton self.old }
         ensures shorter { OnOk result (Shorter self.old self.new) }
@@ -255,6 +262,7 @@ impl<'s, 'a> Reader<'s, 'a> {
     }
 
     /// Names of final states, as many as there are.
+    #[tactic(auto, using(crate::proofs::Steps::turns_start, crate::proofs::Steps::turns_again, crate::proofs::Steps::turns_stop, crate::proofs::Steps::turns_err, crate::proofs::Steps::one_head))]
     fn all_finals(&mut self) -> Result<(), SpecError>
         requires { IsInAutomaton self.old }
         ensures no_longer { OnOk result (NoLonger self.old self.new) }
@@ -268,6 +276,7 @@ impl<'s, 'a> Reader<'s, 'a> {
     }
 
     /// A final state, which is added.
+    #[tactic(auto, using(crate::proofs::StepsAutomaton::final_leads, crate::proofs::StepsAutomaton::stops_closed))]
     fn final_state(&mut self) -> Result<(), SpecError>
         requires { IsInAutomaton self.old }
         ensures shorter { OnOk result (Shorter self.old self.new) }
@@ -298,6 +307,7 @@ impl<'s, 'a> Reader<'s, 'a> {
 
 impl<'s, 'a> Reader<'s, 'a> {
     /// The transitions, those under `Prior` first.
+    #[tactic(auto, using(crate::proofs::Steps::then_reads, crate::proofs::Steps::then_stops, crate::proofs::Steps::then_leads, crate::proofs::Steps::later_stops))]
     fn transitions(&mut self) -> Result<(), SpecError>
         requires { IsInAutomaton self.old }
         ensures no_longer { OnOk result (NoLonger self.old self.new) }
@@ -309,6 +319,7 @@ impl<'s, 'a> Reader<'s, 'a> {
     }
 
     /// The transitions under `Prior`, if there are any.
+    #[tactic(auto, using(crate::proofs::Steps::then_reads, crate::proofs::Steps::then_stops, crate::proofs::Steps::then_head, crate::proofs::Steps::maybe_reads, crate::proofs::Steps::maybe_stops, crate::proofs::Steps::maybe_none))]
     fn prior(&mut self) -> Result<(), SpecError>
         requires { IsInAutomaton self.old }
         ensures no_longer { OnOk result (NoLonger self.old self.new) }
@@ -323,6 +334,7 @@ impl<'s, 'a> Reader<'s, 'a> {
     }
 
     /// Transitions, as many as there are.
+    #[tactic(auto, using(crate::proofs::Steps::turns_start, crate::proofs::Steps::turns_again, crate::proofs::Steps::turns_stop, crate::proofs::Steps::turns_err, crate::proofs::Steps::then_head))]
     fn all_transitions(&mut self) -> Result<(), SpecError>
         requires { IsInAutomaton self.old }
         ensures no_longer { OnOk result (NoLonger self.old self.new) }
