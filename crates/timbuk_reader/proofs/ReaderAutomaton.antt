@@ -1,16 +1,22 @@
 -- What always holds of an automaton, after a further state, final state or transition.
-use Rattle.std.proofs.Common.{◌≡◌, ◌≢◌, ℕ, ◌+◌, ◌-◌, ◌<◌, ◌≤◌, length, arith, Bool, true, false, ◌&&◌, ◌==◌, cond, nat_lt, List, [], ◌∷◌, ◌++◌, refl, ap, sym, ◌∙◌, subst, eq-eqb, eqb-true}
+use Rattle.std.proofs.Common.{◌≡◌, ◌≢◌, ℕ, ◌+◌, ◌-◌, ◌<◌, ◌≤◌, length, length-append, arith, Result, Ok, Err, Bool, true, false, ◌&&◌, ◌==◌, cond, nat_lt, List, [], ◌∷◌, ◌++◌, refl, ap, sym, ◌∙◌, subst, eq-eqb, eqb-true}
+use Rattle.std.specs.Prelude.{OnOk, OnErr}
+use Rattle.std.specs.declared.alloc.AllocError.{AllocError}
 use Rattle.std.specs.List.{list_all}
 use Rattle.std.proofs.lemmas.Bool.Decides.{nat_tests}
 use Rattle.std.proofs.lemmas.List.Folds.{list_all-append}
 use Rattle.ranked_terms.specs.Names.{Symbol}
 use Rattle.ranked_terms.specs.Terms.{is_symbol}
+use Rattle.ta_core.specs.SpecRules.{entries_are_below}
 use Rattle.ta_core.specs.declared.trans.Trans.{Trans}
+use Rattle.trs_rules.specs.declared.entry.Entry.{Entry}
 use Rattle.timbuk_reader.specs.declared.state.Reader.{Reader}
-use Rattle.timbuk_reader.specs.Declarations.{Text, Started, Declared, current, with_current, uses}
+use Rattle.timbuk_grammar.specs.declared.terminal.Place.TheVariants as place
+use Rattle.timbuk_grammar.specs.declared.terminal.Terminal.TheVariants as terminal
+use Rattle.timbuk_reader.specs.Declarations.{Text, Declared, any, adds}
 use Rattle.timbuk_reader.specs.Kept.{states_are_below, trans_are_below, eps_are_below, trans_are_over}
 use Rattle.timbuk_reader.specs.View.{state_of, started}
-use Rattle.timbuk_reader.specs.AutomatonReads.{IsInAutomaton, states_of}
+use Rattle.timbuk_reader.specs.AutomatonReads.{IsInAutomaton, states_of, with_initial_state}
 
 -- ---- the automaton that is read
 
@@ -83,3 +89,40 @@ pub trans_grow : (n m : ℕ) (ts : List Trans) → n ≤ m → trans_are_below n
 trans_grow n m ts h e =
     implied {A = Trans} (λ t. states_are_below n t.args && nat_lt t.to n) (λ t. states_are_below m t.args && nat_lt t.to m)
     (λ t k. let both = both_true (states_are_below n t.args) (nat_lt t.to n) k in rw (below_grows n m t.args h both.0, still_less t.to n m h both.1) refl) ts e
+
+-- ---- a further state
+
+-- the table after an attempt to add a name
+pub longer : (result : Result (Unit {0}) AllocError) (old new : List Text) (name : Text) → OnOk result (new ≡ old ++ name ∷ []) → OnErr result (new ≡ old) → length old ≤ length new
+longer (Ok u) old new name ok err = omega (arith, ap length ok, length-append old (name ∷ []))
+longer (Err e) old new name ok err = omega (arith, ap length err)
+
+-- without entries none names a state
+pub no_entries_below : (n : ℕ) (entries : List Entry) → entries ≡ [] → entries_are_below n entries ≡ true
+no_entries_below n entries e = ap (entries_are_below n) e
+
+-- the initial automaton's part of the table
+pub own_longer : (n m extra : ℕ) → n ≤ m → n - extra ≤ m - extra
+own_longer n m extra h = omega arith
+
+-- what follows where the result is whole
+pub on_ok : {A E : Type 0} {P Q : Type 0} (result : Result A E) → (P → Q) → OnOk result P → OnOk result Q
+on_ok (Ok x) f h = f h
+on_ok (Err e) f h = tt
+
+abbrev added_by : Reader → Text → Bool → Declared
+added_by r name b =
+    let d = state_of r in
+    let a = cond b d.second d.initial in
+    let grown = record a { states = a.states ++ name ∷ [] } in
+    record (cond b (record d { second = grown }) (record d { initial = grown })) { last = any }
+
+-- a state of the automaton as a token adds it
+pub second_added : (r : Reader) (name : Text) → r.automata ≡ 2
+    → record (state_of r) { second = record (started r.second) { states = r.second.states ++ name ∷ [] } } ≡ adds (terminal.Named place.State) name (state_of r)
+unfolding adds
+second_added r name e = ap (added_by r name) (sym (second_is r.automata e))
+
+pub first_added : (r : Reader) (name : Text) → r.automata ≢ 2 → with_initial_state name (state_of r) ≡ adds (terminal.Named place.State) name (state_of r)
+unfolding adds
+first_added r name ne = ap (added_by r name) (sym (first_is r.automata ne))

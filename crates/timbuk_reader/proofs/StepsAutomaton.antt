@@ -1,11 +1,12 @@
 -- The states of an automaton that are used, one token at a time.
-use Rattle.std.proofs.Common.{◌≡◌, ◌≢◌, ℕ, ◌+◌, ◌<◌, ◌≤◌, length, arith, Bool, true, false, not, ◌&&◌, ◌||◌, ◌==◌, cond, List, [], ◌∷◌, ◌++◌, Option, Some, None, Ok, Err, Result, refl, ap, sym, ◌∙◌, subst}
-use Rattle.std.specs.Prelude.{nat_lt, nat_le, position}
+use Rattle.std.proofs.Common.{◌≡◌, ◌≢◌, ℕ, ◌+◌, ◌<◌, ◌≤◌, length, arith, Bool, true, false, not, ◌&&◌, ◌||◌, ◌==◌, cond, List, [], ◌∷◌, ◌++◌, Option, Some, None, Ok, Err, Result, refl, ap, sym, ◌∙◌, subst, append_assoc}
+use Rattle.std.specs.Prelude.{nat_lt, nat_le, position, option_map}
 use Rattle.std.specs.Str.{bytes_eq}
 use Rattle.std.proofs.lemmas.Bool.Decides.{nat_tests}
 use Rattle.std.proofs.lemmas.List.Quantifiers.{position-Some}
 use Rattle.ranked_terms.specs.declared.term.Shape.TheVariants as shape
 use Rattle.ta_core.specs.TreeAutomaton.{trans_of}
+use Rattle.ranked_terms.specs.Names.{names_of}
 use Rattle.timbuk_lex.specs.declared.lexeme.Lexeme.{Lexeme}
 use Rattle.timbuk_grammar.specs.declared.terminal.Place.{Place}
 use Rattle.timbuk_grammar.specs.declared.terminal.Place.TheVariants as place
@@ -16,12 +17,13 @@ use Rattle.timbuk_grammar.specs.Grammar.{Part, one, name}
 use Rattle.timbuk_grammar.proofs.Differ as differ
 use Rattle.timbuk_reader.specs.declared.fault.SpecKind.{SpecKind}
 use Rattle.timbuk_reader.specs.declared.fault.SpecKind.TheVariants as kind
+use Rattle.timbuk_reader.specs.declared.fault.LimitName.{LimitName}
 use Rattle.timbuk_reader.specs.declared.fault.LimitName.TheVariants as limit
 use Rattle.timbuk_reader.specs.declared.fault.SpecError.{SpecError}
 use Rattle.timbuk_reader.specs.declared.fault.SpecError.TheVariants as error
 use Rattle.timbuk_reader.specs.declared.state.Reader.{Reader}
 use Rattle.timbuk_reader.specs.Declarations.{Text, Application, Declared, Started, Head, no_head, state_head, symbol_head, Last, any, leaf, Meaning, unknown, a_variable, a_state, a_symbol, as_state, meaning, current, uses, placed, named, adds}
-use Rattle.timbuk_reader.specs.Rows.{wrong_arity, wrong_count, passed, misnamed}
+use Rattle.timbuk_reader.specs.Rows.{or, when, wrong_arity, wrong_count, over, passed, misnamed, is_in, is_double}
 use Rattle.timbuk_reader.specs.Reading.{Outcome, End, outcome}
 use Rattle.timbuk_reader.specs.View.{Open, closed, declared, inside, state_of, end_of, settled, from, as_error, sees, refusal_at, refusal}
 use Rattle.timbuk_reader.specs.Reads.{Leads, Stops, Reads, IsCalm, Took, Missed, Stands, IsLong, HasNoWord, missed, long}
@@ -29,9 +31,10 @@ use Rattle.timbuk_reader.specs.Patterns.{Advanced, LeadsToParen}
 use Rattle.timbuk_reader.specs.declared.meaning.Meaning.{Meaning as Told}
 use Rattle.timbuk_reader.specs.declared.meaning.Meaning.TheVariants as told
 use Rattle.timbuk_reader.specs.Meanings.{meant_by}
-use Rattle.timbuk_reader.specs.AutomatonReads.{states_of, with_trans, with_epsilon, StaysThere, UsesState, miscounts, IsReady, ReadState, StopsState, headed}
+use Rattle.timbuk_reader.specs.AutomatonReads.{states_of, with_trans, with_epsilon, StaysThere, MayDeclare, table_of, UsesState, miscounts, IsReady, ReadState, StopsState, headed}
 use Rattle.timbuk_reader.proofs.Steps.{Front, choice_unseen, one_front}
 use Rattle.timbuk_reader.proofs.StepsTokens.{use_row, Quiet, row_other, long_row, step_on, step_fault, step_unexpected, step_end, step_leaf, declared_same}
+use Rattle.timbuk_reader.proofs.StepsNames.{Declares, reached, below, is_in-append}
 use Rattle.timbuk_reader.proofs.StepsLast.{after, leaf_whole, read_after}
 
 -- ---- what a name means
@@ -270,3 +273,68 @@ target_stops head args r e h = h.by (headed head args) (headed_ready head args r
 
 pub headed_calm : (head : Head) (args : List ℕ) → IsCalm (headed head args)
 headed_calm head args = record { applications = refl; last = refl }
+
+-- ---- states that are declared
+
+pub may_declare : (p : Place) (r : Reader) → MayDeclare p r → Declares p
+may_declare place.State r h = tt
+may_declare place.ApproximationState r h = tt
+may_declare _ r h = absurd h
+
+pub full_table : (p : Place) (r : Reader) (text : Text) → MayDeclare p r → 16384 ≤ length (table_of p r) → over (terminal.Named p) text (state_of r) ≡ Some limit.States
+full_table place.State r text h full = reached 16384 (length (states_of r)) limit.States full
+full_table place.ApproximationState r text h full = reached 16384 (length r.initial.states) limit.States full
+full_table _ r text h full = absurd h
+
+pub roomy_table : (p : Place) (r : Reader) (text : Text) → MayDeclare p r → length (table_of p r) < 16384 → over (terminal.Named p) text (state_of r) ≡ None
+roomy_table place.State r text h room = below 16384 (length (states_of r)) limit.States room
+roomy_table place.ApproximationState r text h room = below 16384 (length r.initial.states) limit.States room
+roomy_table _ r text h room = absurd h
+
+in_three : (xs ys zs : List Text) (text : Text) → is_in (xs ++ (ys ++ zs)) text ≡ (is_in (xs ++ ys) text || is_in zs text)
+in_three xs ys zs text = ap (λ l. is_in l text) (sym (append_assoc {x = xs} {y = ys} {z = zs})) ∙ is_in-append (xs ++ ys) zs text
+
+-- which name would be declared twice
+pub double_in_table : (p : Place) (r : Reader) (text : Text) → MayDeclare p r → is_double (terminal.Named p) text (state_of r) ≡ (is_in (names_of r.signature ++ r.variables) text || is_in (table_of p r) text)
+double_in_table place.State r text h = in_three (names_of r.signature) r.variables (states_of r) text
+double_in_table place.ApproximationState r text h = in_three (names_of r.signature) r.variables r.initial.states text
+double_in_table _ r text h = absurd h
+
+or_no : (a b : Bool) → (a || b) ≡ false → b ≡ false
+or_no true b e = cc
+or_no false b e = e
+
+pub new_in_table : (p : Place) (r : Reader) (text : Text) → MayDeclare p r → is_double (terminal.Named p) text (state_of r) ≡ false → is_in (table_of p r) text ≡ false
+new_in_table p r text h e = or_no (is_in (names_of r.signature ++ r.variables) text) (is_in (table_of p r) text) (sym (double_in_table p r text h) ∙ e)
+
+-- ---- the word `Automaton`
+
+counted_row : (text : Text) (d : Declared) (k : Option LimitName) → when (nat_le 2 d.automata) limit.Automata ≡ k → use_row terminal.Automaton text d ≡ or (option_map kind.Limit k) None
+unfolding passed misnamed
+counted_row text d k e = rw e refl
+
+word_fault : (ps : List Part) (end : End) (d : Declared) (xs : List Lexeme) → d.last ≡ any → d.applications ≡ [] → 2 ≤ d.automata → sees terminal.Automaton xs ≡ true
+    → outcome end (one terminal.Automaton ∷ ps) d xs ≡ Err (refusal_at (kind.Limit limit.Automata) end xs)
+word_fault ps end d [] l a many e = cc
+word_fault ps end d (x ∷ xs) l a many e =
+    step_fault (one terminal.Automaton ∷ ps) terminal.Automaton ps end d x xs (kind.Limit limit.Automata) (one_front terminal.Automaton ps) e
+    (row_other terminal.Automaton d x tt e (ready_quiet d x l (ap (λ z. wrong_count z x) a)) ∙ counted_row x.text d (Some limit.Automata) (reached 2 d.automata limit.Automata many))
+
+-- a third automaton
+pub third_stops : (r : Reader) (e : SpecError) → 2 ≤ r.automata → sees terminal.Automaton r.tokens.now ≡ true → e ≡ error.Fault (refusal (kind.Limit limit.Automata) r) → Stops (one terminal.Automaton) closed r e
+third_stops r e many seen told = record {
+  by = λ ne ps. ap (λ z. as_error (settled z)) (word_fault ps (end_of r) (state_of r) r.tokens.now refl refl many seen) ∙ ap Err (sym told);
+}
+
+pub automaton_leads : (r u : Reader) (x : Lexeme) → r.automata < 2 → sees terminal.Automaton r.tokens.now ≡ true → r.tokens.now ≡ x ∷ u.tokens.now → end_of u ≡ end_of r
+    → state_of u ≡ record (state_of r) { automata = r.automata + 1 } → Leads (one terminal.Automaton) closed r closed u
+unfolding adds
+automaton_leads r u x few seen tokens end state = record {
+  by = λ ps.
+      let d = state_of r in
+      let matched : matches terminal.Automaton x ≡ true = rw tokens at seen in
+      ap settled (ap (outcome (end_of r) (one terminal.Automaton ∷ ps) d) tokens
+      ∙ step_on (one terminal.Automaton ∷ ps) terminal.Automaton ps (end_of r) d x u.tokens.now (one_front terminal.Automaton ps) matched
+        (row_other terminal.Automaton d x tt matched (ready_quiet d x refl refl) ∙ counted_row x.text d None (below 2 d.automata limit.Automata few))
+      ∙ (λ i. outcome (sym end i) ps (sym state i) u.tokens.now));
+}

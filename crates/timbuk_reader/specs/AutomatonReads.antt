@@ -47,6 +47,10 @@ pub record IsInAutomaton (r : Reader) : Type 0 where
 abbrev pub states_of : Reader → List Text
 states_of r = (current (state_of r)).states
 
+-- the same with a further state of the initial automaton
+abbrev pub with_initial_state : Text → Declared → Declared
+with_initial_state name d = record d { initial = record d.initial { states = d.initial.states ++ name ∷ [] } }
+
 -- the same with a further transition
 abbrev pub with_trans : Trans → Declared → Declared
 with_trans t d = with_current (record (current d) { trans = (current d).trans ++ t ∷ [] }) d

@@ -5,11 +5,11 @@ ghost use Rattle.timbuk_grammar.specs.Grammar as grammar;
 ghost use Rattle.timbuk_grammar.specs.declared.terminal.Place.TheVariants as place;
 ghost use Rattle.timbuk_grammar.specs.declared.terminal.Terminal.TheVariants as terminal;
 ghost use Rattle.timbuk_reader.specs.Declarations.{no_automaton, state_head, symbol_head, uses, adds};
-ghost use Rattle.timbuk_reader.specs.Rows.{is_in};
+ghost use Rattle.timbuk_reader.specs.Rows.{is_in, is_double};
 ghost use Rattle.timbuk_reader.specs.Kept.{states_are_below};
 ghost use Rattle.timbuk_reader.specs.View.{Shorter, closed, started, state_of};
 ghost use Rattle.timbuk_reader.specs.Reads.{Reads};
-ghost use Rattle.timbuk_reader.specs.AutomatonReads.{no_arity, described, prior, target, IsInAutomaton, states_of, with_trans, with_epsilon, NoLonger, StaysThere, MayDeclare, table_of, UsesState, ReadState, StopsState, headed, ReadArgument, StopsArgument, ReadArguments, StopsArguments};
+ghost use Rattle.timbuk_reader.specs.AutomatonReads.{no_arity, described, prior, target, IsInAutomaton, states_of, with_initial_state, with_trans, with_epsilon, NoLonger, StaysThere, MayDeclare, table_of, UsesState, ReadState, StopsState, headed, ReadArgument, StopsArgument, ReadArguments, StopsArguments};
 
 use crate::fault::{LimitName, SpecError, SpecKind};
 use crate::meaning::Meaning;
@@ -41,6 +41,7 @@ impl StartedAutomaton {
 
 impl<'s, 'a> Reader<'s, 'a> {
     /// An automaton, from its word on. It is refused where there are two.
+    #[tactic(auto, using(crate::proofs::Steps::then_reads, crate::proofs::Steps::then_stops, crate::proofs::Steps::then_leads, crate::proofs::Steps::later_stops))]
     pub(crate) fn automaton(&mut self) -> Result<(), SpecError>
         ensures shorter { OnOk result (Shorter self.old self.new) }
         ensures reads { Reads grammar.automaton closed self.old result closed self.new }
@@ -60,10 +61,13 @@ impl<'s, 'a> Reader<'s, 'a> {
         ensures reads { Reads (grammar.one terminal.Automaton) closed self.old result closed self.new }
         ensures inside { OnOk result (IsInAutomaton self.new) }
     {
-        if self.sees(Terminal::Automaton) && self.automata >= MAX_AUTOMATA {
+        if !self.sees(Terminal::Automaton) {
+            return Err(self.refusal(SpecKind::Expected));
+        }
+        if self.automata >= MAX_AUTOMATA {
             return Err(self.refusal(SpecKind::Limit(LimitName::Automata)));
         }
-        self.take(Terminal::Automaton)?;
+        self.advance();
         self.automata += 1;
         Ok(())
     }
@@ -98,6 +102,7 @@ impl<'s, 'a> Reader<'s, 'a> {
     }
 
     /// A state, and its arity 0, which may be left out.
+    #[tactic(auto, using(crate::proofs::Steps::then_reads, crate::proofs::Steps::then_stops))]
     fn declared_state(&mut self, place: Place) -> Result<(), SpecError>
         requires { MayDeclare place self.old }
         ensures shorter { OnOk result (Shorter self.old self.new) }
@@ -110,6 +115,7 @@ impl<'s, 'a> Reader<'s, 'a> {
 
     /// The name of a state, which is added. It is refused where there are 16,384 states, and where a symbol, a variable or
     /// one of these states has the name.
+    #[tactic(auto, using(crate::proofs::StepsTokens::no_word_stops, crate::proofs::StepsTokens::closed_calm))]
     fn state_name(&mut self, place: Place) -> Result<(), SpecError>
         requires { MayDeclare place self.old }
         ensures shorter { OnOk result (Shorter self.old self.new) }
@@ -117,10 +123,10 @@ impl<'s, 'a> Reader<'s, 'a> {
         ensures declares { OnOk result (MayDeclare place self.new) }
     {
         let name = self.word(Terminal::Named(place))?;
-        if self.state_count(place) >= MAX_STATES {
+        if self.table(place).len() >= MAX_STATES {
             return Err(self.refusal(SpecKind::Limit(LimitName::States)));
         }
-        if self.is_taken(name) || self.is_state(place, name) {
+        if self.is_double(place, name) {
             return Err(self.refusal(SpecKind::DoubleName));
         }
         self.add_state(place, name)?;
@@ -128,47 +134,78 @@ impl<'s, 'a> Reader<'s, 'a> {
         Ok(())
     }
 
-    /// The number of states beside which a state is declared.
-    fn state_count(&self, place: Place) -> u32
+    /// The states beside which a state is declared.
+    fn table(&self, place: Place) -> &NameTable
         requires { MayDeclare place self.now }
-        ensures { result ≡ length (table_of place self.now) }
+        ensures { result.now ≡ table_of place self.now }
     {
-        match (place, self.automata) {
-            (Place::State, 2) => self.second.states.len(),
-            _ => self.initial.states.len(),
+        match place {
+            Place::State if self.automata == MAX_AUTOMATA => &self.second.states,
+            _ => &self.initial.states,
         }
     }
 
-    /// Whether one of the states beside which a state is declared has the name.
-    fn is_state(&self, place: Place, name: &str) -> bool
+    /// Whether a symbol, a variable or one of the states beside which a state is declared has the name.
+    fn is_double(&self, place: Place, name: &str) -> bool
         requires { MayDeclare place self.now }
-        ensures { result ≡ is_in (table_of place self.now) name.now }
+        ensures { result ≡ is_double (terminal.Named place) name.now (state_of self.now) }
     {
-        let state = match (place, self.automata) {
-            (Place::State, 2) => self.second.states.find(name),
-            _ => self.initial.states.find(name),
-        };
-        state.is_some()
+        self.is_taken(name) || self.table(place).find(name).is_some()
     }
 
-    /// Adds a state. At want of memory, the only error, nothing is said of the reader.
-    fn add_state(&mut self, place: Place, name: &str) -> Result<(), SpecError>
-        requires may { MayDeclare place self.old }
+    /// Adds a state. The only error is want of memory.
+    fn add_state(&mut self, place: Place, name: &str) -> Result<(), AllocError>
+        requires declares { MayDeclare place self.old }
         requires room { length (table_of place self.old) < 16384 }
         requires new { is_in (table_of place self.old) name.now ≡ false }
         ensures ok { OnOk result (state_of self.new ≡ adds (terminal.Named place) name.now (state_of self.old)) }
         ensures there { OnOk result (StaysThere self.old self.new) }
-        ensures err { IfErr result (λ e. e ≡ SpecError.Memory) }
         ensures declares { OnOk result (MayDeclare place self.new) }
     {
-        match (place, self.automata) {
-            (Place::State, 2) => self.second.states.add(name)?,
-            (Place::State, _) => self.initial.states.add(name)?,
-            _ => {
-                self.initial.states.add(name)?;
-                self.extra += 1;
-            }
+        match place {
+            Place::State => self.add_own_state(name),
+            _ => self.add_extra_state(name),
         }
+    }
+
+    /// Adds a state to the automaton that is being read. The only error is want of memory.
+    fn add_own_state(&mut self, name: &str) -> Result<(), AllocError>
+        requires inside { IsInAutomaton self.old }
+        requires room { length (states_of self.old) < 16384 }
+        requires new { is_in (states_of self.old) name.now ≡ false }
+        ensures ok { OnOk result (state_of self.new ≡ adds (terminal.Named place.State) name.now (state_of self.old)) }
+        ensures there { OnOk result (StaysThere self.old self.new) }
+        ensures inside { OnOk result (IsInAutomaton self.new) }
+    {
+        if self.automata == MAX_AUTOMATA {
+            self.second.states.add(name)
+        } else {
+            self.add_initial_state(name)
+        }
+    }
+
+    /// Adds a state behind those of the initial automaton. The only error is want of memory.
+    fn add_initial_state(&mut self, name: &str) -> Result<(), AllocError>
+        requires early { self.old.entries ≡ [] }
+        requires room { length self.old.initial.states < 16384 }
+        requires new { is_in self.old.initial.states name.now ≡ false }
+        ensures ok { OnOk result (state_of self.new ≡ with_initial_state name.now (state_of self.old)) }
+        ensures there { OnOk result (StaysThere self.old self.new) }
+    {
+        self.initial.states.add(name)
+    }
+
+    /// Adds a state of the approximation behind those of the initial automaton. The only error is want of memory.
+    fn add_extra_state(&mut self, name: &str) -> Result<(), AllocError>
+        requires early { self.old.entries ≡ [] }
+        requires room { length self.old.initial.states < 16384 }
+        requires new { is_in self.old.initial.states name.now ≡ false }
+        ensures ok { OnOk result (state_of self.new ≡ adds (terminal.Named place.ApproximationState) name.now (state_of self.old)) }
+        ensures there { OnOk result (StaysThere self.old self.new) }
+        ensures early { OnOk result (self.new.entries ≡ []) }
+    {
+        self.add_initial_state(name)?;
+        self.extra += 1;
         Ok(())
     }
 
@@ -376,6 +413,7 @@ impl<'s, 'a> Reader<'s, 'a> {
     }
 
     /// The target of an epsilon transition from this state, which is added.
+    #[tactic(auto, using(crate::proofs::Steps::then_stops, crate::proofs::Steps::later_stops, crate::proofs::StepsTokens::mark_leads, crate::proofs::StepsTokens::mark_stops, crate::proofs::StepsAutomaton::headed_calm, crate::proofs::StepsAutomaton::target_stops))]
     fn move_from(&mut self, from: u32) -> Result<(), SpecError>
         requires inside { IsInAutomaton self.old }
         requires below { from < length (states_of self.old) }
@@ -390,6 +428,7 @@ impl<'s, 'a> Reader<'s, 'a> {
     }
 
     /// The target of a transition from this symbol with these arguments, which is added.
+    #[tactic(auto, using(crate::proofs::Steps::then_stops, crate::proofs::Steps::later_stops, crate::proofs::StepsTokens::mark_leads, crate::proofs::StepsTokens::mark_stops, crate::proofs::StepsAutomaton::headed_calm, crate::proofs::StepsAutomaton::target_stops))]
     fn move_up(&mut self, sym: u32, args: Seq<u32>) -> Result<(), SpecError>
         requires inside { IsInAutomaton self.old }
         requires over { IsTrue (is_symbol self.old.signature sym (length args)) }
