@@ -9,3 +9,4 @@ pub mod StepsLast
 pub mod ReaderMeanings
 pub mod ReaderAutomaton
 pub mod StepsAutomaton
+pub mod StepsAutomatonArguments

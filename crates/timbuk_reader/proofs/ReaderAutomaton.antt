@@ -126,3 +126,26 @@ second_added r name e = ap (added_by r name) (sym (second_is r.automata e))
 pub first_added : (r : Reader) (name : Text) → r.automata ≢ 2 → with_initial_state name (state_of r) ≡ adds (terminal.Named place.State) name (state_of r)
 unfolding adds
 first_added r name ne = ap (added_by r name) (sym (first_is r.automata ne))
+
+-- a state of the approximation leaves the initial automaton's own as they are
+module _ (r m : Reader) (name : Text) (e : state_of m ≡ with_initial_state name (state_of r)) where
+  one_more : length m.initial.states ≡ length r.initial.states + 1
+  one_more = ap (λ (d : Declared). length d.initial.states) e ∙ length-append r.initial.states (name ∷ [])
+
+  same_extra : m.extra ≡ r.extra
+  same_extra = ap (λ (d : Declared). d.extra) e
+
+  bound : length m.initial.states - (m.extra + 1) ≡ length r.initial.states - r.extra
+  bound = omega (arith, one_more, same_extra, r.own_states)
+
+  pub extra_own : m.extra + 1 ≤ length m.initial.states
+  extra_own = omega (arith, one_more, same_extra, r.own_states)
+
+  pub extra_finals : states_are_below (length m.initial.states - (m.extra + 1)) m.initial.finals ≡ true
+  extra_finals = (λ i. states_are_below (bound i) ((e i).initial.finals)) ∙ r.initial_finals
+
+  pub extra_trans : trans_are_below (length m.initial.states - (m.extra + 1)) m.initial.trans ≡ true
+  extra_trans = (λ i. trans_are_below (bound i) ((e i).initial.trans)) ∙ r.initial_trans
+
+  pub extra_eps : eps_are_below (length m.initial.states - (m.extra + 1)) m.initial.eps ≡ true
+  extra_eps = (λ i. eps_are_below (bound i) ((e i).initial.eps)) ∙ r.initial_eps

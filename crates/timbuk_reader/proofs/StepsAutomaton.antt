@@ -234,7 +234,7 @@ no_state_word p r e u h = record { by = λ o ready. no_name_stops p o r (uses_me
 pub stops_closed : (p : Place) (r : Reader) (e : SpecError) → StopsState p r e → Stops (name p) closed r e
 stops_closed p r e h = h.by closed (closed_ready r)
 
-there : (r : Reader) → StaysThere r r
+pub there : (r : Reader) → StaysThere r r
 there r = record { tokens = refl; end = refl }
 
 pub described_leads : (r m : Reader) (state : ℕ) → ReadState place.DescribedState r state m → Leads (name place.DescribedState) closed r closed m
@@ -292,7 +292,7 @@ roomy_table place.ApproximationState r text h room = below 16384 (length r.initi
 roomy_table _ r text h room = absurd h
 
 in_three : (xs ys zs : List Text) (text : Text) → is_in (xs ++ (ys ++ zs)) text ≡ (is_in (xs ++ ys) text || is_in zs text)
-in_three xs ys zs text = ap (λ l. is_in l text) (sym (append_assoc {x = xs} {y = ys} {z = zs})) ∙ is_in-append (xs ++ ys) zs text
+in_three xs ys zs text = ap (λ l. is_in l text) (sym (append_assoc xs ys zs)) ∙ is_in-append (xs ++ ys) zs text
 
 -- which name would be declared twice
 pub double_in_table : (p : Place) (r : Reader) (text : Text) → MayDeclare p r → is_double (terminal.Named p) text (state_of r) ≡ (is_in (names_of r.signature ++ r.variables) text || is_in (table_of p r) text)

@@ -70,10 +70,15 @@ pub record StaysThere (old new : Reader) : Type 0 where
 
 -- ---- states that are declared
 
+-- an approximation stands there of which no entry was read
+pub record IsInApproximation (r : Reader) : Type 0 where
+  pub some : r.approximations ≢ 0
+  pub early : r.entries ≡ []
+
 -- A state may be declared in this place: as the automaton's own, or as the approximation's before its entries.
 abbrev pub MayDeclare : Place → Reader → Type 0
 MayDeclare place.State r = IsInAutomaton r
-MayDeclare place.ApproximationState r = r.entries ≡ []
+MayDeclare place.ApproximationState r = IsInApproximation r
 MayDeclare _ r = ⊥
 
 -- the names of the states beside which it is declared

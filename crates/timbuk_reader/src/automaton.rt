@@ -9,7 +9,7 @@ ghost use Rattle.timbuk_reader.specs.Rows.{is_in, is_double};
 ghost use Rattle.timbuk_reader.specs.Kept.{states_are_below};
 ghost use Rattle.timbuk_reader.specs.View.{Shorter, closed, started, state_of};
 ghost use Rattle.timbuk_reader.specs.Reads.{Reads};
-ghost use Rattle.timbuk_reader.specs.AutomatonReads.{no_arity, described, prior, target, IsInAutomaton, states_of, with_initial_state, with_trans, with_epsilon, NoLonger, StaysThere, MayDeclare, table_of, UsesState, ReadState, StopsState, headed, ReadArgument, StopsArgument, ReadArguments, StopsArguments};
+ghost use Rattle.timbuk_reader.specs.AutomatonReads.{IsInApproximation, no_arity, described, prior, target, IsInAutomaton, states_of, with_initial_state, with_trans, with_epsilon, NoLonger, StaysThere, MayDeclare, table_of, UsesState, ReadState, StopsState, headed, ReadArgument, StopsArgument, ReadArguments, StopsArguments};
 
 use crate::fault::{LimitName, SpecError, SpecKind};
 use crate::meaning::Meaning;
@@ -197,12 +197,12 @@ impl<'s, 'a> Reader<'s, 'a> {
 
     /// Adds a state of the approximation behind those of the initial automaton. The only error is want of memory.
     fn add_extra_state(&mut self, name: &str) -> Result<(), AllocError>
-        requires early { self.old.entries ≡ [] }
+        requires inside { IsInApproximation self.old }
         requires room { length self.old.initial.states < 16384 }
         requires new { is_in self.old.initial.states name.now ≡ false }
         ensures ok { OnOk result (state_of self.new ≡ adds (terminal.Named place.ApproximationState) name.now (state_of self.old)) }
         ensures there { OnOk result (StaysThere self.old self.new) }
-        ensures early { OnOk result (self.new.entries ≡ []) }
+        ensures inside { OnOk result (IsInApproximation self.new) }
     {
         self.add_initial_state(name)?;
         self.extra += 1;

@@ -1,4 +1,4 @@
-use Rattle.std.proofs.Common.{◌≡◌, ◌++◌, ◌∷◌, [], false, subst, ap, ◌∙◌}
+use Rattle.std.proofs.Common.{◌≡◌, ◌++◌, ◌∷◌, [], false, List, subst, ap, ◌∙◌}
 use Rattle.timbuk_reader.specs.Declarations.{Text}
 use Rattle.timbuk_reader.specs.Rows.{is_in}
 use Rattle.timbuk_reader.specs.View.{state_of, started}
@@ -10,6 +10,10 @@ pub add-requires-clause-new : goal.add-requires-clause-new
 add-requires-clause-new c =
     let r = c.args.self.now in
     no_position r.second.states c.args.name.now (subst (λ (names : List Text). is_in names c.args.name.now ≡ false) (states_of_second r c.if-self-eq-MAX_AUTOMATA.true) c.requires.new)
+
+pub returns-else-self-eq-MAX_AUTOMATA-clause-ok : goal.returns-else-self-eq-MAX_AUTOMATA-clause-ok
+returns-else-self-eq-MAX_AUTOMATA-clause-ok c =
+    on_ok c.add_initial_state.result (λ h. h ∙ first_added c.args.self.now c.args.name.now c.if-self-eq-MAX_AUTOMATA.false) c.add_initial_state.ensures.ok
 
 pub invariant_of-self-clause-second_finals : goal.invariant_of-self-clause-second_finals
 invariant_of-self-clause-second_finals c = below_grows _ _ _ (longer c.add.result _ _ _ c.add.ensures.ok c.add.ensures.err) c.args.self.now.second_finals
