@@ -1,19 +1,19 @@
 -- The states of an automaton that are used, one token at a time.
-use Rattle.std.proofs.Common.{◌≡◌, ◌≢◌, ℕ, ◌+◌, ◌<◌, ◌≤◌, length, arith, Bool, true, false, not, ◌&&◌, ◌||◌, ◌==◌, cond, List, [], ◌∷◌, ◌++◌, Option, Some, None, Ok, Err, Result, refl, ap, sym, ◌∙◌, subst, append_assoc}
+use Rattle.std.proofs.Common.{◌≡◌, ◌≢◌, ℕ, zero, suc, ◌+◌, ◌<◌, ◌≤◌, length, arith, Bool, true, false, not, ◌&&◌, ◌||◌, ◌==◌, cond, List, [], ◌∷◌, ◌++◌, Option, Some, None, Ok, Err, Result, refl, ap, sym, ◌∙◌, subst, append_assoc}
 use Rattle.std.specs.Prelude.{nat_lt, nat_le, position, option_map}
 use Rattle.std.specs.Str.{bytes_eq}
 use Rattle.std.proofs.lemmas.Bool.Decides.{nat_tests}
 use Rattle.std.proofs.lemmas.List.Quantifiers.{position-Some}
 use Rattle.ranked_terms.specs.declared.term.Shape.TheVariants as shape
 use Rattle.ta_core.specs.TreeAutomaton.{trans_of}
-use Rattle.ranked_terms.specs.Names.{names_of}
+use Rattle.ranked_terms.specs.Names.{Symbol, names_of, number_of}
 use Rattle.timbuk_lex.specs.declared.lexeme.Lexeme.{Lexeme}
 use Rattle.timbuk_grammar.specs.declared.terminal.Place.{Place}
 use Rattle.timbuk_grammar.specs.declared.terminal.Place.TheVariants as place
 use Rattle.timbuk_grammar.specs.declared.terminal.Terminal.{Terminal}
 use Rattle.timbuk_grammar.specs.declared.terminal.Terminal.TheVariants as terminal
 use Rattle.timbuk_grammar.specs.Matching.{matches}
-use Rattle.timbuk_grammar.specs.Grammar.{Part, one, name}
+use Rattle.timbuk_grammar.specs.Grammar.{Part, one, ◌then◌, many, name}
 use Rattle.timbuk_grammar.proofs.Differ as differ
 use Rattle.timbuk_reader.specs.declared.fault.SpecKind.{SpecKind}
 use Rattle.timbuk_reader.specs.declared.fault.SpecKind.TheVariants as kind
@@ -22,7 +22,7 @@ use Rattle.timbuk_reader.specs.declared.fault.LimitName.TheVariants as limit
 use Rattle.timbuk_reader.specs.declared.fault.SpecError.{SpecError}
 use Rattle.timbuk_reader.specs.declared.fault.SpecError.TheVariants as error
 use Rattle.timbuk_reader.specs.declared.state.Reader.{Reader}
-use Rattle.timbuk_reader.specs.Declarations.{Text, Application, Declared, Started, Head, no_head, state_head, symbol_head, Last, any, leaf, Meaning, unknown, a_variable, a_state, a_symbol, as_state, meaning, current, uses, placed, named, adds}
+use Rattle.timbuk_reader.specs.Declarations.{Text, Application, Declared, Started, Head, no_head, state_head, symbol_head, Last, any, leaf, constant, Meaning, unknown, a_variable, a_state, a_symbol, or_else, as_symbol, as_state, meaning, current, uses, placed, named, adds}
 use Rattle.timbuk_reader.specs.Rows.{or, when, wrong_arity, wrong_count, over, passed, misnamed, is_in, is_double}
 use Rattle.timbuk_reader.specs.Reading.{Outcome, End, outcome}
 use Rattle.timbuk_reader.specs.View.{Open, closed, declared, inside, state_of, end_of, settled, from, as_error, sees, refusal_at, refusal}
@@ -31,11 +31,11 @@ use Rattle.timbuk_reader.specs.Patterns.{Advanced, LeadsToParen}
 use Rattle.timbuk_reader.specs.declared.meaning.Meaning.{Meaning as Told}
 use Rattle.timbuk_reader.specs.declared.meaning.Meaning.TheVariants as told
 use Rattle.timbuk_reader.specs.Meanings.{meant_by}
-use Rattle.timbuk_reader.specs.AutomatonReads.{states_of, with_trans, with_epsilon, StaysThere, MayDeclare, table_of, UsesState, miscounts, IsReady, ReadState, StopsState, headed}
-use Rattle.timbuk_reader.proofs.Steps.{Front, choice_unseen, one_front}
-use Rattle.timbuk_reader.proofs.StepsTokens.{use_row, Quiet, row_other, long_row, step_on, step_fault, step_unexpected, step_end, step_leaf, declared_same}
+use Rattle.timbuk_reader.specs.AutomatonReads.{states_of, with_trans, with_epsilon, StaysThere, MayDeclare, table_of, UsesState, miscounts, IsReady, ReadState, StopsState, head_arguments, begun, headed}
+use Rattle.timbuk_reader.proofs.Steps.{Front, choice_unseen, one_front, then_head, maybe_none}
+use Rattle.timbuk_reader.proofs.StepsTokens.{use_row, Quiet, row_other, long_row, step_on, step_fault, step_wrong, step_unexpected, step_end, step_leaf, declared_same}
 use Rattle.timbuk_reader.proofs.StepsNames.{Declares, reached, below, is_in-append}
-use Rattle.timbuk_reader.proofs.StepsLast.{after, leaf_whole, read_after}
+use Rattle.timbuk_reader.proofs.StepsLast.{after, leaf_whole, constant_whole, read_after}
 
 -- ---- what a name means
 
@@ -315,15 +315,15 @@ counted_row text d k e = rw e refl
 
 word_fault : (ps : List Part) (end : End) (d : Declared) (xs : List Lexeme) → d.last ≡ any → d.applications ≡ [] → 2 ≤ d.automata → sees terminal.Automaton xs ≡ true
     → outcome end (one terminal.Automaton ∷ ps) d xs ≡ Err (refusal_at (kind.Limit limit.Automata) end xs)
-word_fault ps end d [] l a many e = cc
-word_fault ps end d (x ∷ xs) l a many e =
+word_fault ps end d [] l a enough e = cc
+word_fault ps end d (x ∷ xs) l a enough e =
     step_fault (one terminal.Automaton ∷ ps) terminal.Automaton ps end d x xs (kind.Limit limit.Automata) (one_front terminal.Automaton ps) e
-    (row_other terminal.Automaton d x tt e (ready_quiet d x l (ap (λ z. wrong_count z x) a)) ∙ counted_row x.text d (Some limit.Automata) (reached 2 d.automata limit.Automata many))
+    (row_other terminal.Automaton d x tt e (ready_quiet d x l (ap (λ z. wrong_count z x) a)) ∙ counted_row x.text d (Some limit.Automata) (reached 2 d.automata limit.Automata enough))
 
 -- a third automaton
 pub third_stops : (r : Reader) (e : SpecError) → 2 ≤ r.automata → sees terminal.Automaton r.tokens.now ≡ true → e ≡ error.Fault (refusal (kind.Limit limit.Automata) r) → Stops (one terminal.Automaton) closed r e
-third_stops r e many seen told = record {
-  by = λ ne ps. ap (λ z. as_error (settled z)) (word_fault ps (end_of r) (state_of r) r.tokens.now refl refl many seen) ∙ ap Err (sym told);
+third_stops r e enough seen told = record {
+  by = λ ne ps. ap (λ z. as_error (settled z)) (word_fault ps (end_of r) (state_of r) r.tokens.now refl refl enough seen) ∙ ap Err (sym told);
 }
 
 pub automaton_leads : (r u : Reader) (x : Lexeme) → r.automata < 2 → sees terminal.Automaton r.tokens.now ≡ true → r.tokens.now ≡ x ∷ u.tokens.now → end_of u ≡ end_of r
@@ -338,3 +338,90 @@ automaton_leads r u x few seen tokens end state = record {
         (row_other terminal.Automaton d x tt matched (ready_quiet d x refl refl) ∙ counted_row x.text d None (below 2 d.automata limit.Automata few))
       ∙ (λ i. outcome (sym end i) ps (sym state i) u.tokens.now));
 }
+
+-- ---- heads of transitions
+
+and_no : (b : Bool) → (b && false) ≡ false
+and_no true = refl
+and_no false = refl
+
+symbol_row : (text : Text) (d : Declared) (f n : ℕ) → length text ≤ 255 → d.applications ≡ [] → meaning d place.TransitionHead text ≡ a_symbol f n → use_row (terminal.Named place.TransitionHead) text d ≡ None
+unfolding passed misnamed
+symbol_row text d f n s a m = rw (short text s, m, a, and_no (nat_lt 0 n)) refl
+
+symbol_adds : (text : Text) (d : Declared) (f n : ℕ) → meaning d place.TransitionHead text ≡ a_symbol f n → adds (terminal.Named place.TransitionHead) text d ≡ named place.TransitionHead (a_symbol f n) d
+unfolding adds
+symbol_adds text d f n m = ap (λ m. named place.TransitionHead m d) m
+
+constant_paren : (ps : List Part) (end : End) (d : Declared) (xs : List Lexeme) → sees terminal.OpenParen xs ≡ true → outcome end ps (after constant d) xs ≡ Err (refusal_at kind.WrongArity end xs)
+unfolding wrong_arity
+constant_paren ps end d [] e = cc
+constant_paren ps end d (x ∷ rest) e = step_wrong ps end (after constant d) x rest (rw e refl)
+
+head_meaning : (text : Text) (d : Declared) → meaning d place.TransitionHead text ≡ or_else (as_symbol d.symbols (number_of d.symbols text)) (as_state (position (bytes_eq text) (current d).states))
+unfolding meaning
+head_meaning text d = refl
+
+nothing_meant : (m : Told) (f q : Option ℕ) (symbols : List Symbol) → meant_by m ≡ or_else (as_symbol symbols f) (as_state q) → ((q : ℕ) → m ≡ told.State q → ⊥) → ((f n : ℕ) → m ≡ told.Symbol f n → ⊥) → meant_by m ≡ unknown
+nothing_meant told.Unknown f q symbols e no_state no_symbol = refl
+nothing_meant (told.State p) f q symbols e no_state no_symbol = absurd (no_state p refl)
+nothing_meant (told.Symbol g n) f q symbols e no_state no_symbol = absurd (no_symbol g n refl)
+nothing_meant (told.Variable v) (Some g) q symbols e no_state no_symbol = cc
+nothing_meant (told.Variable v) None (Some p) symbols e no_state no_symbol = cc
+nothing_meant (told.Variable v) None None symbols e no_state no_symbol = cc
+
+module _ (r m : Reader) (text : Text) (s : Stands (terminal.Named place.TransitionHead) r text) (h : Advanced r m) where
+  abbrev head : Part
+  head = name place.TransitionHead
+
+  module _ (q : ℕ) (means : meaning (state_of r) place.TransitionHead text ≡ a_state q) where
+    -- a state from which an epsilon transition goes
+    pub state_head_leads : sees terminal.OpenParen m.tokens.now ≡ false → Leads head closed r (headed (state_head q) []) m
+    state_head_leads alone =
+        kept_leads place.TransitionHead closed (headed (state_head q) []) r m m q (closed_ready r)
+        (record { by = λ o ready. state_leads place.TransitionHead o r tt ready text q m s means h alone }) (there m) refl
+
+    pub state_head_stops : (e : SpecError) → sees terminal.OpenParen m.tokens.now ≡ true → e ≡ error.Fault (refusal kind.Expected m) → Stops head closed r e
+    state_head_stops e seen told = applied_stops place.TransitionHead closed r tt (closed_ready r) text q m s means h e seen told
+
+  module _ (f n : ℕ) (means : meaning (state_of r) place.TransitionHead text ≡ a_symbol f n) where
+    behind_symbol : (ps : List Part) → outcome (end_of r) (head ∷ ps) (state_of r) r.tokens.now ≡ outcome (end_of m) ps (named place.TransitionHead (a_symbol f n) (state_of m)) m.tokens.now
+    behind_symbol ps =
+        let d = state_of r in
+        let t = terminal.Named place.TransitionHead in
+        let same : s.rest ≡ m.tokens.now = let e = sym s.tokens ∙ h.tokens in cc in
+        let few : length s.token.text ≤ 255 = subst (λ z. length z ≤ 255) (sym s.text_is) s.short in
+        let means : meaning d place.TransitionHead s.token.text ≡ a_symbol f n = ap (meaning d place.TransitionHead) s.text_is ∙ means in
+        ap (outcome (end_of r) (head ∷ ps) d) s.tokens
+        ∙ step_on (head ∷ ps) t ps (end_of r) d s.token s.rest (one_front t ps) s.matched (row_other t d s.token tt s.matched (ready_quiet d s.token refl refl) ∙ symbol_row s.token.text d f n few refl means)
+        ∙ ap (λ z. outcome (end_of r) ps z s.rest) (symbol_adds s.token.text d f n means)
+        ∙ (λ i. outcome (sym h.end i) ps (named place.TransitionHead (a_symbol f n) (sym h.state i)) (same i))
+
+  module _ (f : ℕ) (means : meaning (state_of r) place.TransitionHead text ≡ a_symbol f 0) where
+    -- a symbol without arguments
+    pub constant_leads : sees terminal.OpenParen m.tokens.now ≡ false → Leads head closed r (headed (symbol_head f) []) m
+    constant_leads alone = record {
+      by = λ ps. ap settled (behind_symbol f 0 means ps) ∙ read_after constant constant_whole (end_of m) ps (declared (headed (symbol_head f) []) m) m.tokens.now alone;
+    }
+
+    pub constant_stops : (e : SpecError) → sees terminal.OpenParen m.tokens.now ≡ true → e ≡ error.Fault (refusal kind.WrongArity m) → Stops head closed r e
+    constant_stops e seen told = record {
+      by = λ ne ps. ap (λ z. as_error (settled z)) (behind_symbol f 0 means ps ∙ constant_paren ps (end_of m) (declared (headed (symbol_head f) []) m) m.tokens.now seen) ∙ ap Err (sym told);
+    }
+
+  -- a symbol with arguments
+  pub function_leads : (f n : ℕ) → n ≢ 0 → meaning (state_of r) place.TransitionHead text ≡ a_symbol f n → Leads head closed r (begun f n) m
+  function_leads f zero some means = absurd (some refl)
+  function_leads f (suc n) some means = record { by = λ ps. ap settled (behind_symbol f (suc n) means ps) }
+
+-- an unknown name at the head
+pub unknown_head_stops : (r : Reader) (text : Text) (m : Told) (e : SpecError) → Stands (terminal.Named place.TransitionHead) r text → meant_by m ≡ meaning (state_of r) place.TransitionHead text
+    → ((q : ℕ) → m ≡ told.State q → ⊥) → ((f n : ℕ) → m ≡ told.Symbol f n → ⊥) → e ≡ error.Fault (refusal kind.UnknownName r) → Stops (name place.TransitionHead) closed r e
+unknown_head_stops r text m e s means no_state no_symbol told =
+    unknown_stops place.TransitionHead closed r tt (closed_ready r) text e s (sym means ∙ nothing_meant m (number_of r.signature text) (position (bytes_eq text) (states_of r)) r.signature (means ∙ head_meaning text (state_of r)) no_state no_symbol) told
+
+-- what follows the head of a transition without arguments
+pub no_arguments : (head : Head) (r : Reader) → sees terminal.OpenParen r.tokens.now ≡ false → Leads head_arguments (headed head []) r (headed head []) r
+no_arguments head r unseen =
+    maybe_none (one terminal.OpenParen then name place.TransitionArgument then many (one terminal.Comma then name place.TransitionArgument) then one terminal.CloseParen) terminal.OpenParen (headed head []) r
+    (then_head terminal.OpenParen (name place.TransitionArgument then many (one terminal.Comma then name place.TransitionArgument) then one terminal.CloseParen)) unseen

@@ -1,6 +1,6 @@
 -- The arguments of a symbol, one token at a time, and those of a transition.
 use Rattle.std.proofs.Common.{◌≡◌, ◌≢◌, ℕ, zero, suc, ◌+◌, ◌<◌, ◌≤◌, length, arith, Bool, true, false, not, ◌&&◌, ◌||◌, List, [], ◌∷◌, ◌++◌, Some, None, Ok, Err, refl, ap, sym, ◌∙◌, subst}
-use Rattle.std.specs.Prelude.{map, nat_lt, nat_le}
+use Rattle.std.specs.Prelude.{map, nat_lt, nat_le, Result, IfOk}
 use Rattle.std.proofs.lemmas.Bool.Decides.{nat_tests}
 use Rattle.std.proofs.lemmas.List.{map-append, length-map}
 use Rattle.ranked_terms.specs.declared.term.Shape.{Shape}
@@ -159,22 +159,25 @@ abbrev among : ℕ → ℕ → List ℕ → Reader → Declared
 among f n args r = declared (arguing f n args) r
 
 states_count : (args : List ℕ) → length (map shape.State args) ≡ length args
-states_count args = length-map
+states_count args = length-map args shape.State
+
+few : (n : ℕ) (args : List ℕ) → length args < n → length (map shape.State args) < n
+few n args less = subst (λ k. k < n) (sym (states_count args)) less
 
 module _ (f n : ℕ) (args : List ℕ) (r : Reader) where
   -- no argument, but a `)`
   pub closed_early : (e : SpecError) → length args < n → sees terminal.CloseParen r.tokens.now ≡ true → e ≡ error.Fault (refusal kind.WrongArity r) → Stops argument (arguing f n args) r e
   closed_early e less seen told = record {
-    by = λ ne ps. ap (λ z. as_error (settled z)) (early_close argument (argument_of f n args) [] (among f n args r) refl (argument ∷ ps) (end_of r) r.tokens.now (rw states_count less) seen) ∙ ap Err (sym told);
+    by = λ ne ps. ap (λ z. as_error (settled z)) (early_close argument (argument_of f n args) [] (among f n args r) refl (argument ∷ ps) (end_of r) r.tokens.now (few n args less) seen) ∙ ap Err (sym told);
   }
 
   ready : length args < n → sees terminal.CloseParen r.tokens.now ≡ false → IsReady (arguing f n args) r
-  ready less unseen = record { last = refl; count = ready_count argument (argument_of f n args) [] (among f n args r) refl r.tokens.now (rw states_count less) unseen }
+  ready less unseen = record { last = refl; count = ready_count argument (argument_of f n args) [] (among f n args r) refl r.tokens.now (few n args less) unseen }
 
   pub argument_leads : (m : Reader) (q : ℕ) → length args < n → sees terminal.CloseParen r.tokens.now ≡ false → ReadState place.TransitionArgument r q m → Leads argument (arguing f n args) r (arguing f n (args ++ q ∷ [])) m
   argument_leads m q less unseen h =
       kept_leads place.TransitionArgument (arguing f n args) (arguing f n (args ++ q ∷ [])) r m m q (ready less unseen) h (there m)
-      (ap (λ shapes. record (among f n (args ++ q ∷ []) m) { applications = record (argument_of f n []) { args = shapes } ∷ [] }) map-append)
+      (ap (λ shapes. record (among f n (args ++ q ∷ []) m) { applications = record (argument_of f n []) { args = shapes } ∷ [] }) (map-append shape.State args (q ∷ [])))
 
   pub argument_stops : (e : SpecError) → length args < n → sees terminal.CloseParen r.tokens.now ≡ false → StopsState place.TransitionArgument r e → Stops argument (arguing f n args) r e
   argument_stops e less unseen h = h.by (arguing f n args) (ready less unseen)
@@ -199,7 +202,7 @@ module _ (n : ℕ) where
       → from (arguing f n args) (behind_argument argument ∷ ps) r ≡ from (arguing f n args) (argument ∷ many (one terminal.Comma then argument) ∷ one terminal.CloseParen ∷ ps) m
   between f r m args ps less k = ap settled (
       took_run terminal.Comma r m (arguing f n args) (behind_argument argument ∷ ps) k
-      ∙ comma_on argument (argument_of f n args) [] (among f n args m) refl ps (end_of m) k.token m.tokens.now (rw states_count less) k.matched)
+      ∙ comma_on argument (argument_of f n args) [] (among f n args m) refl ps (end_of m) k.token m.tokens.now (few n args less) k.matched)
 
   pub first_stops : (r m : Reader) (e : SpecError) → 0 < n → Took terminal.OpenParen r m → StopsArgument m e → StopsArguments n r e
   first_stops r m e some k h = record { by = λ f. record { by = λ ne ps. ap as_error (opened f r m ps k) ∙ (h.by f n [] some).by ne (behind_argument argument ∷ ps) } }
@@ -227,7 +230,7 @@ module _ (n : ℕ) where
     by = λ f. record {
       by = λ ps. g.by f ps ∙ ap settled (
           took_run terminal.CloseParen m u (arguing f n args) (behind_argument argument ∷ ps) k
-          ∙ close_on argument (argument_of f n args) [] (among f n args u) refl ps (end_of u) k.token u.tokens.now (rw states_count full) k.matched);
+          ∙ close_on argument (argument_of f n args) [] (among f n args u) refl ps (end_of u) k.token u.tokens.now (states_count args ∙ full) k.matched);
     };
   }
 
@@ -243,7 +246,7 @@ module _ (n : ℕ) where
   pub lacks_next : (r m : Reader) (args : List ℕ) (e : SpecError) → SomeArguments n r args m → length args < n → LacksArgument m e → StopsArguments n r e
   lacks_next r m args e g less (too_few seen told) = record {
     by = λ f. record {
-      by = λ ne ps. ap as_error (g.by f ps) ∙ ap (λ z. as_error (settled z)) (early_close argument (argument_of f n args) [] (among f n args m) refl (behind_argument argument ∷ ps) (end_of m) m.tokens.now (rw states_count less) seen) ∙ ap Err (sym told);
+      by = λ ne ps. ap as_error (g.by f ps) ∙ ap (λ z. as_error (settled z)) (early_close argument (argument_of f n args) [] (among f n args m) refl (behind_argument argument ∷ ps) (end_of m) m.tokens.now (few n args less) seen) ∙ ap Err (sym told);
     };
   }
   lacks_next r m args e g less (no_comma unseen k) = record {
@@ -255,7 +258,7 @@ module _ (n : ℕ) where
   pub lacks_last : (r m : Reader) (args : List ℕ) (e : SpecError) → SomeArguments n r args m → length args ≡ n → LacksEnd m e → StopsArguments n r e
   lacks_last r m args e g full (too_many seen told) = record {
     by = λ f. record {
-      by = λ ne ps. ap as_error (g.by f ps) ∙ ap (λ z. as_error (settled z)) (late_comma argument (argument_of f n args) [] (among f n args m) refl (behind_argument argument ∷ ps) (end_of m) m.tokens.now (rw states_count full) seen) ∙ ap Err (sym told);
+      by = λ ne ps. ap as_error (g.by f ps) ∙ ap (λ z. as_error (settled z)) (late_comma argument (argument_of f n args) [] (among f n args m) refl (behind_argument argument ∷ ps) (end_of m) m.tokens.now (states_count args ∙ full) seen) ∙ ap Err (sym told);
     };
   }
   lacks_last r m args e g full (no_end unseen k) = record {
@@ -263,3 +266,8 @@ module _ (n : ℕ) where
       by = λ ne ps. ap as_error (g.by f ps) ∙ ap (λ z. as_error (settled z)) (other_mark argument (argument_of f n args) [] (among f n args m) refl ps (end_of m) m.tokens.now k.unseen unseen) ∙ ap Err (sym k.told);
     };
   }
+
+-- an argument, where its result is handed on
+pub read_argument_by : (r m : Reader) (result : Result ℕ SpecError) → sees terminal.CloseParen r.tokens.now ≡ false → IfOk result (λ q. ReadState place.TransitionArgument r q m) → IfOk result (λ q. ReadArgument r q m)
+read_argument_by r m (Ok q) unseen h = read_argument r m q unseen h
+read_argument_by r m (Err e) unseen h = tt
