@@ -1,12 +1,15 @@
 -- The states of an automaton that are used, one token at a time.
-use Rattle.std.proofs.Common.{◌≡◌, ◌≢◌, ℕ, zero, suc, ◌+◌, ◌<◌, ◌≤◌, length, arith, Bool, true, false, not, ◌&&◌, ◌||◌, ◌==◌, cond, List, [], ◌∷◌, ◌++◌, Option, Some, None, Ok, Err, Result, refl, ap, sym, ◌∙◌, subst, append_assoc}
-use Rattle.std.specs.Prelude.{nat_lt, nat_le, position, option_map}
+use Rattle.std.proofs.Common.{◌≡◌, ◌≢◌, ◌⊎◌, inl, inr, ℕ, zero, suc, eq-eqb, ◌+◌, ◌<◌, ◌≤◌, length, arith, Bool, true, false, not, ◌&&◌, ◌||◌, ◌==◌, cond, List, [], ◌∷◌, ◌++◌, Option, Some, None, Ok, Err, Result, refl, ap, sym, ◌∙◌, subst, append_assoc}
+use Rattle.std.specs.Prelude.{nat_lt, nat_le, position, option_map, unwrap_or, slice_get}
 use Rattle.std.specs.Str.{bytes_eq}
 use Rattle.std.proofs.lemmas.Bool.Decides.{nat_tests}
 use Rattle.std.proofs.lemmas.List.Quantifiers.{position-Some}
+use Rattle.std.proofs.lemmas.List.{length-map}
+use Rattle.std.proofs.lemmas.Option.{slice_get-get_or}
 use Rattle.ranked_terms.specs.declared.term.Shape.TheVariants as shape
 use Rattle.ta_core.specs.TreeAutomaton.{trans_of}
-use Rattle.ranked_terms.specs.Names.{Symbol, names_of, number_of}
+use Rattle.ranked_terms.specs.Names.{Symbol, names_of, number_of, arity_of}
+use Rattle.ranked_terms.specs.Terms.{is_arity, is_symbol}
 use Rattle.timbuk_lex.specs.declared.lexeme.Lexeme.{Lexeme}
 use Rattle.timbuk_grammar.specs.declared.terminal.Place.{Place}
 use Rattle.timbuk_grammar.specs.declared.terminal.Place.TheVariants as place
@@ -22,7 +25,7 @@ use Rattle.timbuk_reader.specs.declared.fault.LimitName.TheVariants as limit
 use Rattle.timbuk_reader.specs.declared.fault.SpecError.{SpecError}
 use Rattle.timbuk_reader.specs.declared.fault.SpecError.TheVariants as error
 use Rattle.timbuk_reader.specs.declared.state.Reader.{Reader}
-use Rattle.timbuk_reader.specs.Declarations.{Text, Application, Declared, Started, Head, no_head, state_head, symbol_head, Last, any, leaf, constant, Meaning, unknown, a_variable, a_state, a_symbol, or_else, as_symbol, as_state, meaning, current, uses, placed, named, adds}
+use Rattle.timbuk_reader.specs.Declarations.{Text, Application, Declared, Started, Head, no_head, state_head, symbol_head, Last, any, leaf, constant, Meaning, unknown, a_variable, a_state, a_symbol, or_else, as_symbol, as_state, meaning, current, with_current, uses, placed, named, adds}
 use Rattle.timbuk_reader.specs.Rows.{or, when, wrong_arity, wrong_count, over, passed, misnamed, is_in, is_double}
 use Rattle.timbuk_reader.specs.Reading.{Outcome, End, outcome}
 use Rattle.timbuk_reader.specs.View.{Open, closed, declared, inside, state_of, end_of, settled, from, as_error, sees, refusal_at, refusal}
@@ -251,22 +254,26 @@ closing_by : (b : Bool) (a : Started) (head : Head) (args : List ℕ) (r : Reade
 closing_by true a head args r = refl
 closing_by false a head args r = refl
 
+-- an automaton that is kept, where a transition ends
+closing : (a : Started) (head : Head) (args : List ℕ) (r : Reader) (d : Declared) → d ≡ with_current a (state_of r) → d ≡ record (with_current a (declared (headed head args) r)) { head = no_head; head_args = []; last = any }
+closing a head args r d e = e ∙ closing_by (r.automata == 2) a head args r
+
 headed_ready : (head : Head) (args : List ℕ) (r : Reader) → IsReady (headed head args) r
 headed_ready head args r = calm_ready (headed head args) r refl refl
 
 pub epsilon_leads : (from to : ℕ) (r m u : Reader) → ReadState place.TransitionTarget r to m → StaysThere m u → state_of u ≡ with_epsilon from to (state_of m)
     → Leads (name place.TransitionTarget) (headed (state_head from) []) r closed u
 epsilon_leads from to r m u h k e =
-    let d = state_of m in
+    let a = current (state_of m) in
     kept_leads place.TransitionTarget (headed (state_head from) []) closed r m u to (headed_ready (state_head from) [] r) h k
-    (e ∙ closing_by (m.automata == 2) (record (current d) { eps = (current d).eps ++ (from, to) ∷ [] }) (state_head from) [] m)
+    (closing (record a { eps = a.eps ++ (from, to) ∷ [] }) (state_head from) [] m (state_of u) e)
 
 pub trans_leads : (f : ℕ) (args : List ℕ) (to : ℕ) (r m u : Reader) → ReadState place.TransitionTarget r to m → StaysThere m u → state_of u ≡ with_trans (trans_of f args to) (state_of m)
     → Leads (name place.TransitionTarget) (headed (symbol_head f) args) r closed u
 trans_leads f args to r m u h k e =
-    let d = state_of m in
+    let a = current (state_of m) in
     kept_leads place.TransitionTarget (headed (symbol_head f) args) closed r m u to (headed_ready (symbol_head f) args r) h k
-    (e ∙ closing_by (m.automata == 2) (record (current d) { trans = (current d).trans ++ trans_of f args to ∷ [] }) (symbol_head f) args m)
+    (closing (record a { trans = a.trans ++ trans_of f args to ∷ [] }) (symbol_head f) args m (state_of u) e)
 
 pub target_stops : (head : Head) (args : List ℕ) (r : Reader) (e : SpecError) → StopsState place.TransitionTarget r e → Stops (name place.TransitionTarget) (headed head args) r e
 target_stops head args r e h = h.by (headed head args) (headed_ready head args r)
@@ -362,13 +369,45 @@ head_meaning : (text : Text) (d : Declared) → meaning d place.TransitionHead t
 unfolding meaning
 head_meaning text d = refl
 
-nothing_meant : (m : Told) (f q : Option ℕ) (symbols : List Symbol) → meant_by m ≡ or_else (as_symbol symbols f) (as_state q) → ((q : ℕ) → m ≡ told.State q → ⊥) → ((f n : ℕ) → m ≡ told.Symbol f n → ⊥) → meant_by m ≡ unknown
-nothing_meant told.Unknown f q symbols e no_state no_symbol = refl
-nothing_meant (told.State p) f q symbols e no_state no_symbol = absurd (no_state p refl)
-nothing_meant (told.Symbol g n) f q symbols e no_state no_symbol = absurd (no_symbol g n refl)
-nothing_meant (told.Variable v) (Some g) q symbols e no_state no_symbol = cc
-nothing_meant (told.Variable v) None (Some p) symbols e no_state no_symbol = cc
-nothing_meant (told.Variable v) None None symbols e no_state no_symbol = cc
+-- a variable or nothing
+abbrev pub IsNoHead : Told → Type 0
+IsNoHead m = ((v : ℕ) × (m ≡ told.Variable v)) ⊎ (m ≡ told.Unknown)
+
+no_variable_head : (f q : Option ℕ) (symbols : List Symbol) (v : ℕ) → a_variable v ≡ or_else (as_symbol symbols f) (as_state q) → ⊥
+no_variable_head (Some g) q symbols v e = cc
+no_variable_head None (Some p) symbols v e = cc
+no_variable_head None None symbols v e = cc
+
+nothing_meant : (m : Told) (f q : Option ℕ) (symbols : List Symbol) → meant_by m ≡ or_else (as_symbol symbols f) (as_state q) → IsNoHead m → meant_by m ≡ unknown
+nothing_meant m f q symbols e (inl h) = absurd (no_variable_head f q symbols h.0 (sym (ap meant_by h.1) ∙ e))
+nothing_meant m f q symbols e (inr h) = ap meant_by h
+
+state_at_head : (f q : Option ℕ) (symbols : List Symbol) (p : ℕ) → or_else (as_symbol symbols f) (as_state q) ≡ a_state p → q ≡ Some p
+state_at_head (Some g) q symbols p e = cc
+state_at_head None q symbols p e = state_place q p e
+
+-- a state at the head is one of the automaton
+pub head_state_below : (text : Text) (r m : Reader) (q : ℕ) → meaning (state_of r) place.TransitionHead text ≡ a_state q → state_of m ≡ state_of r → q < length (states_of m)
+head_state_below text r m q e same =
+    let place = state_at_head (number_of r.signature text) (position (bytes_eq text) (states_of r)) r.signature q (sym (head_meaning text (state_of r)) ∙ e) in
+    subst (λ (d : Declared). q < length (current d).states) (sym same) (position-Some (bytes_eq text) (states_of r) q [] place).0
+
+symbol_at_head : (g q : Option ℕ) (symbols : List Symbol) (f n : ℕ) → or_else (as_symbol symbols g) (as_state q) ≡ a_symbol f n → (g ≡ Some f) × (unwrap_or (arity_of symbols f) 0 ≡ n)
+symbol_at_head (Some g) q symbols f n e = let same : g ≡ f = cc in (ap Some same, ap (λ k. unwrap_or (arity_of symbols k) 0) (sym same) ∙ cc)
+symbol_at_head None (Some p) symbols f n e = cc
+symbol_at_head None None symbols f n e = cc
+
+arity_is : (symbols : List Symbol) (f n : ℕ) (s : Symbol) → slice_get symbols f ≡ Some s → unwrap_or (arity_of symbols f) 0 ≡ n → is_symbol symbols f n ≡ true
+arity_is symbols f n s e h =
+    let arity = ap (option_map (λ (s : Symbol). s.1)) e in
+    ap (is_arity n) arity ∙ eq-eqb n s.1 (sym h ∙ ap (λ o. unwrap_or o 0) arity)
+
+-- a symbol at the head is one of the signature, with its arity
+pub head_symbol_over : (text : Text) (r : Reader) (f n : ℕ) → meaning (state_of r) place.TransitionHead text ≡ a_symbol f n → is_symbol r.signature f n ≡ true
+head_symbol_over text r f n e =
+    let found = symbol_at_head (number_of r.signature text) (position (bytes_eq text) (states_of r)) r.signature f n (sym (head_meaning text (state_of r)) ∙ e) in
+    let inside : f < length r.signature = subst (λ k. f < k) (length-map r.signature (λ (s : Symbol). s.0)) (position-Some (bytes_eq text) (names_of r.signature) f [] found.0).0 in
+    arity_is r.signature f n _ (slice_get-get_or r.signature f ([], 0) inside) found.1
 
 module _ (r m : Reader) (text : Text) (s : Stands (terminal.Named place.TransitionHead) r text) (h : Advanced r m) where
   abbrev head : Part
@@ -416,9 +455,10 @@ module _ (r m : Reader) (text : Text) (s : Stands (terminal.Named place.Transiti
 
 -- an unknown name at the head
 pub unknown_head_stops : (r : Reader) (text : Text) (m : Told) (e : SpecError) → Stands (terminal.Named place.TransitionHead) r text → meant_by m ≡ meaning (state_of r) place.TransitionHead text
-    → ((q : ℕ) → m ≡ told.State q → ⊥) → ((f n : ℕ) → m ≡ told.Symbol f n → ⊥) → e ≡ error.Fault (refusal kind.UnknownName r) → Stops (name place.TransitionHead) closed r e
-unknown_head_stops r text m e s means no_state no_symbol told =
-    unknown_stops place.TransitionHead closed r tt (closed_ready r) text e s (sym means ∙ nothing_meant m (number_of r.signature text) (position (bytes_eq text) (states_of r)) r.signature (means ∙ head_meaning text (state_of r)) no_state no_symbol) told
+    → IsNoHead m → e ≡ error.Fault (refusal kind.UnknownName r) → Stops (name place.TransitionHead) closed r e
+unknown_head_stops r text m e s means none told =
+    unknown_stops place.TransitionHead closed r tt (closed_ready r) text e s
+    (sym means ∙ nothing_meant m (number_of r.signature text) (position (bytes_eq text) (states_of r)) r.signature (means ∙ head_meaning text (state_of r)) none) told
 
 -- what follows the head of a transition without arguments
 pub no_arguments : (head : Head) (r : Reader) → sees terminal.OpenParen r.tokens.now ≡ false → Leads head_arguments (headed head []) r (headed head []) r
