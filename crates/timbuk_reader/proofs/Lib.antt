@@ -7,6 +7,7 @@ pub mod StepsNames
 pub mod ReaderFresh
 pub mod StepsLast
 pub mod ReaderMeanings
-pub mod ReaderAutomaton
-pub mod StepsAutomaton
-pub mod StepsAutomatonArguments
+pub mod StepsPatterns
+pub mod ReaderPatterns
+pub mod ReaderArguments
+pub mod ReaderFits

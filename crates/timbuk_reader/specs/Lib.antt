@@ -12,4 +12,3 @@ pub mod Reads
 pub mod Kept
 pub mod Patterns
 pub mod Meanings
-pub mod AutomatonReads

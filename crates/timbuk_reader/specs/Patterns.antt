@@ -17,11 +17,11 @@ use Rattle.timbuk_reader.specs.declared.fault.LimitName.TheVariants as limit
 use Rattle.timbuk_reader.specs.declared.fault.SpecError.{SpecError}
 use Rattle.timbuk_reader.specs.declared.fault.SpecError.TheVariants as error
 use Rattle.timbuk_reader.specs.declared.state.Reader.{Reader}
-use Rattle.timbuk_reader.specs.Declarations.{Declared, Application, Last, any, function, Meaning, unknown, a_variable, a_symbol, has, with_variable, placed}
+use Rattle.timbuk_reader.specs.Declarations.{Text, Declared, Application, Last, any, function, Meaning, meaning, unknown, a_variable, a_symbol, has, with_variable, placed}
 use Rattle.timbuk_reader.specs.Reading.{Outcome, outcome}
 use Rattle.timbuk_reader.specs.Rows.{or, when}
 use Rattle.timbuk_reader.specs.View.{Open, closed, declared, state_of, end_of, settled, from, as_error, refusal, sees}
-use Rattle.timbuk_reader.specs.Reads.{Missed}
+use Rattle.timbuk_reader.specs.Reads.{Missed, Stands}
 
 -- the places of patterns
 abbrev pub IsPatternPlace : Place → Type 0
@@ -34,7 +34,7 @@ IsPatternPlace _ = ⊥
 
 -- these applications are open, the innermost first, and these sides of the declaration are whole
 abbrev pub within : List Application → List Shape → Open
-within applications shapes = record closed { applications = applications; shapes = shapes }
+within applications shapes = record closed { applications = applications; shapes = shapes; binds = true }
 
 -- the innermost application lacks an argument
 abbrev pub HasRoom : List Application → Type 0
@@ -165,7 +165,7 @@ pattern_fault p m depth r = or (option_map kind.Limit (pattern_limit m depth r.b
 
 -- only the bound variables and the tokens are others
 pub record SameBut (old new : Reader) : Type 0 where
-  pub state : state_of new ≡ record (state_of old) { bound = new.bound }
+  pub state : state_of new ≡ state_of old
   pub end : end_of new ≡ end_of old
 
 -- the states that may stand in a pattern are those below this number
@@ -199,6 +199,7 @@ pub record Advanced (old new : Reader) : Type 0 where
   pub token : Lexeme
   pub tokens : old.tokens.now ≡ token ∷ new.tokens.now
   pub state : state_of new ≡ state_of old
+  pub bound : new.bound ≡ old.bound
   pub end : end_of new ≡ end_of old
 
 -- a `(` follows, and that is told
@@ -211,3 +212,10 @@ pub record LeadsToParen (k : SpecKind) (old : Reader) (e : SpecError) (new : Rea
 abbrev pub EndsName : {X : Type 0} → SpecKind → Reader → Result X SpecError → Reader → Type 0
 EndsName k old (Ok u) new = Advanced old new × (sees terminal.OpenParen new.tokens.now ≡ false)
 EndsName k old (Err e) new = LeadsToParen k old e new
+
+-- a name stands next that may stand there
+pub record HasHead (p : Place) (depth : ℕ) (r : Reader) (m : Meaning) : Type 0 where
+  pub text : Text
+  pub stands : Stands (terminal.Named p) r text
+  pub means : meaning (state_of r) p text ≡ m
+  pub fits : pattern_fault p m depth r ≡ None
