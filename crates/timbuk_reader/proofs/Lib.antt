@@ -11,3 +11,6 @@ pub mod StepsPatterns
 pub mod ReaderPatterns
 pub mod ReaderArguments
 pub mod ReaderFits
+pub mod ReaderAutomaton
+pub mod StepsAutomaton
+pub mod StepsAutomatonArguments

@@ -6,6 +6,7 @@ use Rattle.std.specs.List.{list_all}
 use Rattle.std.proofs.lemmas.Bool.Decides.{nat_tests}
 use Rattle.std.proofs.lemmas.List.Folds.{list_all-append}
 use Rattle.ranked_terms.specs.Names.{Symbol}
+use Rattle.timbuk_lex.proofs.Fronts.{both}
 use Rattle.ranked_terms.specs.Terms.{is_symbol}
 use Rattle.ta_core.specs.SpecRules.{entries_are_below}
 use Rattle.ta_core.specs.declared.trans.Trans.{Trans}
@@ -68,13 +69,9 @@ over_push signature ts t h e = push (λ t. is_symbol signature t.sym (length t.a
 
 -- ---- a higher bound
 
-both_true : (a b : Bool) → (a && b) ≡ true → (a ≡ true) × (b ≡ true)
-both_true true b e = (refl, e)
-both_true false b e = cc
-
 implied : {A : Type 0} (p q : A → Bool) → ((x : A) → p x ≡ true → q x ≡ true) → (xs : List A) → list_all p xs ≡ true → list_all q xs ≡ true
 implied p q h [] e = refl
-implied p q h (x ∷ xs) e = let both = both_true (p x) (list_all p xs) e in rw (h x both.0, implied p q h xs both.1) refl
+implied p q h (x ∷ xs) e = let parts = both (p x) (list_all p xs) e in rw (h x parts.0, implied p q h xs parts.1) refl
 
 still_less : (q n m : ℕ) → n ≤ m → nat_lt q n ≡ true → nat_lt q m ≡ true
 still_less q n m h e = grind (arith, nat_tests)
@@ -83,12 +80,12 @@ pub below_grows : (n m : ℕ) (qs : List ℕ) → n ≤ m → states_are_below n
 below_grows n m qs h e = implied (λ q. nat_lt q n) (λ q. nat_lt q m) (λ q. still_less q n m h) qs e
 
 pub eps_grow : (n m : ℕ) (es : List (ℕ × ℕ)) → n ≤ m → eps_are_below n es ≡ true → eps_are_below m es ≡ true
-eps_grow n m es h e = implied {A = ℕ × ℕ} (λ e. nat_lt e.0 n && nat_lt e.1 n) (λ e. nat_lt e.0 m && nat_lt e.1 m) (λ (p : ℕ × ℕ) k. let both = both_true (nat_lt p.0 n) (nat_lt p.1 n) k in rw (still_less p.0 n m h both.0, still_less p.1 n m h both.1) refl) es e
+eps_grow n m es h e = implied {A = ℕ × ℕ} (λ e. nat_lt e.0 n && nat_lt e.1 n) (λ e. nat_lt e.0 m && nat_lt e.1 m) (λ (p : ℕ × ℕ) k. let parts = both (nat_lt p.0 n) (nat_lt p.1 n) k in rw (still_less p.0 n m h parts.0, still_less p.1 n m h parts.1) refl) es e
 
 pub trans_grow : (n m : ℕ) (ts : List Trans) → n ≤ m → trans_are_below n ts ≡ true → trans_are_below m ts ≡ true
 trans_grow n m ts h e =
     implied {A = Trans} (λ t. states_are_below n t.args && nat_lt t.to n) (λ t. states_are_below m t.args && nat_lt t.to m)
-    (λ t k. let both = both_true (states_are_below n t.args) (nat_lt t.to n) k in rw (below_grows n m t.args h both.0, still_less t.to n m h both.1) refl) ts e
+    (λ t k. let parts = both (states_are_below n t.args) (nat_lt t.to n) k in rw (below_grows n m t.args h parts.0, still_less t.to n m h parts.1) refl) ts e
 
 -- ---- a further state
 
@@ -104,11 +101,6 @@ no_entries_below n entries e = ap (entries_are_below n) e
 -- the initial automaton's part of the table
 pub own_longer : (n m extra : ℕ) → n ≤ m → n - extra ≤ m - extra
 own_longer n m extra h = omega arith
-
--- what follows where the result is whole
-pub on_ok : {A E : Type 0} {P Q : Type 0} (result : Result A E) → (P → Q) → OnOk result P → OnOk result Q
-on_ok (Ok x) f h = f h
-on_ok (Err e) f h = tt
 
 abbrev added_by : Reader → Text → Bool → Declared
 added_by r name b =

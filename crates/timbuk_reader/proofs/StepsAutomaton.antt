@@ -2,6 +2,7 @@
 use Rattle.std.proofs.Common.{◌≡◌, ◌≢◌, ◌⊎◌, inl, inr, ℕ, zero, suc, eq-eqb, ◌+◌, ◌<◌, ◌≤◌, length, arith, Bool, true, false, not, ◌&&◌, ◌||◌, ◌==◌, cond, List, [], ◌∷◌, ◌++◌, Option, Some, None, Ok, Err, Result, refl, ap, sym, ◌∙◌, subst, append_assoc}
 use Rattle.std.specs.Prelude.{nat_lt, nat_le, position, option_map, unwrap_or, slice_get}
 use Rattle.std.specs.Str.{bytes_eq}
+use Rattle.std.proofs.Math.Bool.{and-false}
 use Rattle.std.proofs.lemmas.Bool.Decides.{nat_tests}
 use Rattle.std.proofs.lemmas.List.Quantifiers.{position-Some}
 use Rattle.std.proofs.lemmas.List.{length-map}
@@ -34,7 +35,7 @@ use Rattle.timbuk_reader.specs.Patterns.{Advanced, LeadsToParen}
 use Rattle.timbuk_reader.specs.declared.meaning.Meaning.{Meaning as Told}
 use Rattle.timbuk_reader.specs.declared.meaning.Meaning.TheVariants as told
 use Rattle.timbuk_reader.specs.Meanings.{meant_by}
-use Rattle.timbuk_reader.specs.AutomatonReads.{states_of, with_trans, with_epsilon, StaysThere, MayDeclare, table_of, UsesState, miscounts, IsReady, ReadState, StopsState, head_arguments, begun, headed}
+use Rattle.timbuk_reader.specs.AutomatonReads.{states_of, with_trans, with_epsilon, SameTokens, MayDeclare, table_of, UsesState, miscounts, IsReady, ReadState, StopsState, head_arguments, begun, headed}
 use Rattle.timbuk_reader.proofs.Steps.{Front, choice_unseen, one_front, then_head, maybe_none}
 use Rattle.timbuk_reader.proofs.StepsTokens.{use_row, Quiet, row_other, long_row, step_on, step_fault, step_wrong, step_unexpected, step_end, step_leaf, declared_same}
 use Rattle.timbuk_reader.proofs.StepsNames.{Declares, reached, below, is_in-append}
@@ -196,7 +197,7 @@ module _ (p : Place) (o : Open) (r : Reader) (u : MeansState p) (ready : IsReady
         let means : meaning d p s.token.text ≡ a_state q = ap (meaning d p) s.text_is ∙ open_meaning p text o r ∙ means in
         ap (outcome (end_of r) (name p ∷ ps) d) s.tokens
         ∙ state_on p ps (end_of r) d s.token s.rest q u s.matched (quiet_at s.token s.rest s.tokens) few means
-        ∙ (λ i. outcome (sym h.end i) ps (after leaf (uses p q (placed p (shape.State q) (sym (declared_same o r m h.state) i)))) (same i))
+        ∙ (λ i. outcome (sym h.end i) ps (after leaf (uses p q (placed p (shape.State q) (sym (declared_same o r m h.state h.bound) i)))) (same i))
 
     -- a state was read
     pub state_leads : sees terminal.OpenParen m.tokens.now ≡ false → (ps : List Part)
@@ -222,7 +223,7 @@ pub calm_ready : (o : Open) (r : Reader) → o.applications ≡ [] → o.last �
 calm_ready o r e f = record { last = f; count = ap (λ a. miscounts a r.tokens.now) e ∙ no_counts r.tokens.now }
 
 -- what is kept of it
-pub kept_leads : (p : Place) (o q : Open) (r m u : Reader) (state : ℕ) → IsReady o r → ReadState p r state m → StaysThere m u
+pub kept_leads : (p : Place) (o q : Open) (r m u : Reader) (state : ℕ) → IsReady o r → ReadState p r state m → SameTokens m u
     → declared q u ≡ record (uses p state (placed p (shape.State state) (declared o m))) { last = any } → Leads (name p) o r q u
 kept_leads p o q r m u state ready h k e = record {
   by = λ ps. h.by o ready ps ∙ (λ i. settled (outcome (sym k.end i) ps (sym e i) (sym k.tokens i)));
@@ -237,13 +238,13 @@ no_state_word p r e u h = record { by = λ o ready. no_name_stops p o r (uses_me
 pub stops_closed : (p : Place) (r : Reader) (e : SpecError) → StopsState p r e → Stops (name p) closed r e
 stops_closed p r e h = h.by closed (closed_ready r)
 
-pub there : (r : Reader) → StaysThere r r
-there r = record { tokens = refl; end = refl }
+pub same_tokens : (r : Reader) → SameTokens r r
+same_tokens r = record { tokens = refl; end = refl }
 
 pub described_leads : (r m : Reader) (state : ℕ) → ReadState place.DescribedState r state m → Leads (name place.DescribedState) closed r closed m
-described_leads r m state h = kept_leads place.DescribedState closed closed r m m state (closed_ready r) h (there m) refl
+described_leads r m state h = kept_leads place.DescribedState closed closed r m m state (closed_ready r) h (same_tokens m) refl
 
-pub final_leads : (r m u : Reader) (state : ℕ) → ReadState place.FinalState r state m → StaysThere m u → state_of u ≡ uses place.FinalState state (state_of m) → Leads (name place.FinalState) closed r closed u
+pub final_leads : (r m u : Reader) (state : ℕ) → ReadState place.FinalState r state m → SameTokens m u → state_of u ≡ uses place.FinalState state (state_of m) → Leads (name place.FinalState) closed r closed u
 final_leads r m u state h k e = kept_leads place.FinalState closed closed r m u state (closed_ready r) h k (ap (after any) e)
 
 -- ---- targets of transitions
@@ -261,14 +262,14 @@ closing a head args r d e = e ∙ closing_by (r.automata == 2) a head args r
 headed_ready : (head : Head) (args : List ℕ) (r : Reader) → IsReady (headed head args) r
 headed_ready head args r = calm_ready (headed head args) r refl refl
 
-pub epsilon_leads : (from to : ℕ) (r m u : Reader) → ReadState place.TransitionTarget r to m → StaysThere m u → state_of u ≡ with_epsilon from to (state_of m)
+pub epsilon_leads : (from to : ℕ) (r m u : Reader) → ReadState place.TransitionTarget r to m → SameTokens m u → state_of u ≡ with_epsilon from to (state_of m)
     → Leads (name place.TransitionTarget) (headed (state_head from) []) r closed u
 epsilon_leads from to r m u h k e =
     let a = current (state_of m) in
     kept_leads place.TransitionTarget (headed (state_head from) []) closed r m u to (headed_ready (state_head from) [] r) h k
     (closing (record a { eps = a.eps ++ (from, to) ∷ [] }) (state_head from) [] m (state_of u) e)
 
-pub trans_leads : (f : ℕ) (args : List ℕ) (to : ℕ) (r m u : Reader) → ReadState place.TransitionTarget r to m → StaysThere m u → state_of u ≡ with_trans (trans_of f args to) (state_of m)
+pub trans_leads : (f : ℕ) (args : List ℕ) (to : ℕ) (r m u : Reader) → ReadState place.TransitionTarget r to m → SameTokens m u → state_of u ≡ with_trans (trans_of f args to) (state_of m)
     → Leads (name place.TransitionTarget) (headed (symbol_head f) args) r closed u
 trans_leads f args to r m u h k e =
     let a = current (state_of m) in
@@ -348,13 +349,9 @@ automaton_leads r u x few seen tokens end state = record {
 
 -- ---- heads of transitions
 
-and_no : (b : Bool) → (b && false) ≡ false
-and_no true = refl
-and_no false = refl
-
 symbol_row : (text : Text) (d : Declared) (f n : ℕ) → length text ≤ 255 → d.applications ≡ [] → meaning d place.TransitionHead text ≡ a_symbol f n → use_row (terminal.Named place.TransitionHead) text d ≡ None
 unfolding passed misnamed
-symbol_row text d f n s a m = rw (short text s, m, a, and_no (nat_lt 0 n)) refl
+symbol_row text d f n s a m = rw (short text s, m, a, and-false (nat_lt 0 n)) refl
 
 symbol_adds : (text : Text) (d : Declared) (f n : ℕ) → meaning d place.TransitionHead text ≡ a_symbol f n → adds (terminal.Named place.TransitionHead) text d ≡ named place.TransitionHead (a_symbol f n) d
 unfolding adds
@@ -418,7 +415,7 @@ module _ (r m : Reader) (text : Text) (s : Stands (terminal.Named place.Transiti
     pub state_head_leads : sees terminal.OpenParen m.tokens.now ≡ false → Leads head closed r (headed (state_head q) []) m
     state_head_leads alone =
         kept_leads place.TransitionHead closed (headed (state_head q) []) r m m q (closed_ready r)
-        (record { by = λ o ready. state_leads place.TransitionHead o r tt ready text q m s means h alone }) (there m) refl
+        (record { by = λ o ready. state_leads place.TransitionHead o r tt ready text q m s means h alone }) (same_tokens m) refl
 
     pub state_head_stops : (e : SpecError) → sees terminal.OpenParen m.tokens.now ≡ true → e ≡ error.Fault (refusal kind.Expected m) → Stops head closed r e
     state_head_stops e seen told = applied_stops place.TransitionHead closed r tt (closed_ready r) text q m s means h e seen told

@@ -1,6 +1,7 @@
 -- The arguments of a symbol, one token at a time, and those of a transition.
 use Rattle.std.proofs.Common.{◌≡◌, ◌≢◌, ℕ, zero, suc, ◌+◌, ◌<◌, ◌≤◌, length, arith, Bool, true, false, not, ◌&&◌, ◌||◌, List, [], ◌∷◌, ◌++◌, Some, None, Ok, Err, refl, ap, sym, ◌∙◌, subst}
 use Rattle.std.specs.Prelude.{map, nat_lt, nat_le, Result, IfOk}
+use Rattle.std.proofs.Math.Bool.{and-false}
 use Rattle.std.proofs.lemmas.Bool.Decides.{nat_tests}
 use Rattle.std.proofs.lemmas.List.{map-append, length-map}
 use Rattle.ranked_terms.specs.declared.term.Shape.{Shape}
@@ -24,19 +25,15 @@ use Rattle.timbuk_reader.specs.Reading.{End, outcome, ends_by}
 use Rattle.timbuk_reader.specs.View.{Open, declared, state_of, end_of, settled, from, as_error, sees, refusal_at, end_fault, refusal}
 use Rattle.timbuk_reader.specs.Reads.{Leads, Stops, Took, Missed}
 use Rattle.timbuk_reader.specs.Patterns.{LacksArguments, LacksArgument, too_few, no_comma, LacksEnd, too_many, no_end}
-use Rattle.timbuk_reader.specs.AutomatonReads.{head_arguments, argument_of, arguing, begun, headed, miscounts, IsReady, StaysThere, ReadState, StopsState, ReadArgument, StopsArgument, ReadArguments, StopsArguments, SomeArguments}
+use Rattle.timbuk_reader.specs.AutomatonReads.{head_arguments, argument_of, arguing, begun, headed, miscounts, IsReady, SameTokens, ReadState, StopsState, ReadArgument, StopsArgument, ReadArguments, StopsArguments, SomeArguments}
 use Rattle.timbuk_reader.proofs.Steps.{alike, both_alike, one_front, then_head, maybe_take, many_take, many_skip, choice_unseen}
 use Rattle.timbuk_reader.proofs.StepsTokens.{use_row, Quiet, row_other, step_on, step_wrong, step_unexpected, step_end, mark_row, mark_adds, declared_same}
 use Rattle.timbuk_reader.proofs.StepsLast.{after}
-use Rattle.timbuk_reader.proofs.StepsAutomaton.{paren_counts, kept_leads, there}
+use Rattle.timbuk_reader.proofs.StepsAutomaton.{paren_counts, kept_leads, same_tokens}
 
 -- what may stand behind an argument
 abbrev pub behind_argument : Part → Part
 behind_argument a = many (one terminal.Comma then a) then one terminal.CloseParen
-
-and_no : (b : Bool) → (b && false) ≡ false
-and_no true = refl
-and_no false = refl
 
 -- ---- one mark
 
@@ -108,7 +105,7 @@ module _ (a : Part) (A : Application) (outer : List Application) (d : Declared) 
 
   function_end : (ending : Ending) (ps : List Part) (end : End) → ends_by ending end ps (after function d) ≡ Err (end_fault ending end)
   unfolding end_row
-  function_end Whole ps end = rw and_no refl
+  function_end Whole ps end = rw and-false refl
   function_end (Stopped why line column) ps end = refl
 
   pub other_paren : (ps : List Part) (end : End) (xs : List Lexeme) → sees terminal.OpenParen xs ≡ false → outcome end ps (after function d) xs ≡ Err (refusal_at kind.WrongArity end xs)
@@ -145,12 +142,12 @@ module _ (a : Part) (A : Application) (outer : List Application) (d : Declared) 
   -- an argument may stand there
   pub ready_count : (xs : List Lexeme) → length A.args < A.arity → sees terminal.CloseParen xs ≡ false → miscounts d.applications xs ≡ false
   ready_count [] less e = refl
-  ready_count (x ∷ xs) less e = let few : nat_le A.arity (length A.args) ≡ false = grind (arith, nat_tests) in count x ∙ rw (e, few) (and_no (matches terminal.Comma x))
+  ready_count (x ∷ xs) less e = let few : nat_le A.arity (length A.args) ≡ false = grind (arith, nat_tests) in count x ∙ rw (e, few) (and-false (matches terminal.Comma x))
 
 -- ---- the arguments of a transition
 
 took_run : (t : Terminal) (r m : Reader) (o : Open) (ps : List Part) → (k : Took t r m) → outcome (end_of r) ps (declared o r) r.tokens.now ≡ outcome (end_of m) ps (declared o m) (k.token ∷ m.tokens.now)
-took_run t r m o ps k = λ i. outcome (sym k.end i) ps (sym (declared_same o r m k.state) i) (k.tokens i)
+took_run t r m o ps k = λ i. outcome (sym k.end i) ps (sym (declared_same o r m k.state k.bound) i) (k.tokens i)
 
 abbrev argument : Part
 argument = name place.TransitionArgument
@@ -176,7 +173,7 @@ module _ (f n : ℕ) (args : List ℕ) (r : Reader) where
 
   pub argument_leads : (m : Reader) (q : ℕ) → length args < n → sees terminal.CloseParen r.tokens.now ≡ false → ReadState place.TransitionArgument r q m → Leads argument (arguing f n args) r (arguing f n (args ++ q ∷ [])) m
   argument_leads m q less unseen h =
-      kept_leads place.TransitionArgument (arguing f n args) (arguing f n (args ++ q ∷ [])) r m m q (ready less unseen) h (there m)
+      kept_leads place.TransitionArgument (arguing f n args) (arguing f n (args ++ q ∷ [])) r m m q (ready less unseen) h (same_tokens m)
       (ap (λ shapes. record (among f n (args ++ q ∷ []) m) { applications = record (argument_of f n []) { args = shapes } ∷ [] }) (map-append shape.State args (q ∷ [])))
 
   pub argument_stops : (e : SpecError) → length args < n → sees terminal.CloseParen r.tokens.now ≡ false → StopsState place.TransitionArgument r e → Stops argument (arguing f n args) r e

@@ -64,7 +64,7 @@ abbrev pub NoLonger : Reader → Reader → Type 0
 NoLonger old new = length new.tokens.now ≤ length old.tokens.now
 
 -- the same tokens are left
-pub record StaysThere (old new : Reader) : Type 0 where
+pub record SameTokens (old new : Reader) : Type 0 where
   pub tokens : new.tokens.now ≡ old.tokens.now
   pub end : end_of new ≡ end_of old
 

@@ -9,7 +9,7 @@ ghost use Rattle.timbuk_reader.specs.Rows.{is_in, is_double};
 ghost use Rattle.timbuk_reader.specs.Kept.{states_are_below};
 ghost use Rattle.timbuk_reader.specs.View.{Shorter, closed, started, state_of};
 ghost use Rattle.timbuk_reader.specs.Reads.{Reads};
-ghost use Rattle.timbuk_reader.specs.AutomatonReads.{IsInApproximation, no_arity, described, prior, target, IsInAutomaton, states_of, with_initial_state, with_trans, with_epsilon, NoLonger, StaysThere, MayDeclare, table_of, UsesState, ReadState, StopsState, headed, ReadArgument, StopsArgument, ReadArguments, StopsArguments};
+ghost use Rattle.timbuk_reader.specs.AutomatonReads.{IsInApproximation, no_arity, described, prior, target, IsInAutomaton, states_of, with_initial_state, with_trans, with_epsilon, NoLonger, SameTokens, MayDeclare, table_of, UsesState, ReadState, StopsState, headed, ReadArgument, StopsArgument, ReadArguments, StopsArguments};
 
 use crate::fault::{LimitName, SpecError, SpecKind};
 use crate::meaning::Meaning;
@@ -140,7 +140,7 @@ impl<'s, 'a> Reader<'s, 'a> {
         ensures { result.now ≡ table_of place self.now }
     {
         match place {
-            Place::State if self.automata == MAX_AUTOMATA => &self.second.states,
+            Place::State if self.automata == 2 => &self.second.states,
             _ => &self.initial.states,
         }
     }
@@ -159,7 +159,7 @@ impl<'s, 'a> Reader<'s, 'a> {
         requires room { length (table_of place self.old) < 16384 }
         requires new { is_in (table_of place self.old) name.now ≡ false }
         ensures ok { OnOk result (state_of self.new ≡ adds (terminal.Named place) name.now (state_of self.old)) }
-        ensures there { OnOk result (StaysThere self.old self.new) }
+        ensures left { OnOk result (SameTokens self.old self.new) }
         ensures declares { OnOk result (MayDeclare place self.new) }
     {
         match place {
@@ -174,10 +174,10 @@ impl<'s, 'a> Reader<'s, 'a> {
         requires room { length (states_of self.old) < 16384 }
         requires new { is_in (states_of self.old) name.now ≡ false }
         ensures ok { OnOk result (state_of self.new ≡ adds (terminal.Named place.State) name.now (state_of self.old)) }
-        ensures there { OnOk result (StaysThere self.old self.new) }
+        ensures left { OnOk result (SameTokens self.old self.new) }
         ensures inside { OnOk result (IsInAutomaton self.new) }
     {
-        if self.automata == MAX_AUTOMATA {
+        if self.automata == 2 {
             self.second.states.add(name)
         } else {
             self.add_initial_state(name)
@@ -190,7 +190,7 @@ impl<'s, 'a> Reader<'s, 'a> {
         requires room { length self.old.initial.states < 16384 }
         requires new { is_in self.old.initial.states name.now ≡ false }
         ensures ok { OnOk result (state_of self.new ≡ with_initial_state name.now (state_of self.old)) }
-        ensures there { OnOk result (StaysThere self.old self.new) }
+        ensures left { OnOk result (SameTokens self.old self.new) }
     {
         self.initial.states.add(name)
     }
@@ -201,7 +201,7 @@ impl<'s, 'a> Reader<'s, 'a> {
         requires room { length self.old.initial.states < 16384 }
         requires new { is_in self.old.initial.states name.now ≡ false }
         ensures ok { OnOk result (state_of self.new ≡ adds (terminal.Named place.ApproximationState) name.now (state_of self.old)) }
-        ensures there { OnOk result (StaysThere self.old self.new) }
+        ensures left { OnOk result (SameTokens self.old self.new) }
         ensures inside { OnOk result (IsInApproximation self.new) }
     {
         self.add_initial_state(name)?;
@@ -330,9 +330,9 @@ impl<'s, 'a> Reader<'s, 'a> {
         requires inside { IsInAutomaton self.old }
         requires below { state < length (states_of self.old) }
         ensures ok { OnOk result (state_of self.new ≡ uses place.FinalState state (state_of self.old)) }
-        ensures there { OnOk result (StaysThere self.old self.new) }
+        ensures left { OnOk result (SameTokens self.old self.new) }
     {
-        if self.automata == MAX_AUTOMATA {
+        if self.automata == 2 {
             self.second.finals.push(state)
         } else {
             self.initial.finals.push(state)
@@ -397,16 +397,16 @@ impl<'s, 'a> Reader<'s, 'a> {
         match self.meaning(Place::TransitionHead, name) {
             Meaning::State(from) => {
                 self.leaf(SpecKind::Expected)?;
-                self.move_from(from)
+                self.epsilon_target(from)
             }
             Meaning::Symbol(sym, 0) => {
                 self.leaf(SpecKind::WrongArity)?;
-                self.move_up(sym, Seq::new(self.alloc))
+                self.transition_target(sym, Seq::new(self.alloc))
             }
             Meaning::Symbol(sym, arity) => {
                 self.advance();
                 let args = self.transition_arguments(arity)?;
-                self.move_up(sym, args)
+                self.transition_target(sym, args)
             }
             Meaning::Variable(_) | Meaning::Unknown => Err(self.refusal(SpecKind::UnknownName)),
         }
@@ -414,7 +414,7 @@ impl<'s, 'a> Reader<'s, 'a> {
 
     /// The target of an epsilon transition from this state, which is added.
     #[tactic(auto, using(crate::proofs::Steps::then_stops, crate::proofs::Steps::later_stops, crate::proofs::StepsTokens::mark_leads, crate::proofs::StepsTokens::mark_stops, crate::proofs::StepsAutomaton::headed_calm, crate::proofs::StepsAutomaton::target_stops))]
-    fn move_from(&mut self, from: u32) -> Result<(), SpecError>
+    fn epsilon_target(&mut self, from: u32) -> Result<(), SpecError>
         requires inside { IsInAutomaton self.old }
         requires below { from < length (states_of self.old) }
         ensures no_longer { OnOk result (NoLonger self.old self.new) }
@@ -429,7 +429,7 @@ impl<'s, 'a> Reader<'s, 'a> {
 
     /// The target of a transition from this symbol with these arguments, which is added.
     #[tactic(auto, using(crate::proofs::Steps::then_stops, crate::proofs::Steps::later_stops, crate::proofs::StepsTokens::mark_leads, crate::proofs::StepsTokens::mark_stops, crate::proofs::StepsAutomaton::headed_calm, crate::proofs::StepsAutomaton::target_stops))]
-    fn move_up(&mut self, sym: u32, args: Seq<u32>) -> Result<(), SpecError>
+    fn transition_target(&mut self, sym: u32, args: Seq<u32>) -> Result<(), SpecError>
         requires inside { IsInAutomaton self.old }
         requires over { IsTrue (is_symbol self.old.signature sym (length args)) }
         requires below { IsTrue (states_are_below (length (states_of self.old)) args) }
@@ -450,9 +450,9 @@ impl<'s, 'a> Reader<'s, 'a> {
         requires from_below { from < length (states_of self.old) }
         requires to_below { to < length (states_of self.old) }
         ensures ok { OnOk result (state_of self.new ≡ with_epsilon from to (state_of self.old)) }
-        ensures there { OnOk result (StaysThere self.old self.new) }
+        ensures left { OnOk result (SameTokens self.old self.new) }
     {
-        if self.automata == MAX_AUTOMATA {
+        if self.automata == 2 {
             self.second.eps.push((from, to))
         } else {
             self.initial.eps.push((from, to))
@@ -466,9 +466,9 @@ impl<'s, 'a> Reader<'s, 'a> {
         requires below { IsTrue (states_are_below (length (states_of self.old)) trans.args) }
         requires to_below { trans.to < length (states_of self.old) }
         ensures ok { OnOk result (state_of self.new ≡ with_trans trans (state_of self.old)) }
-        ensures there { OnOk result (StaysThere self.old self.new) }
+        ensures left { OnOk result (SameTokens self.old self.new) }
     {
-        if self.automata == MAX_AUTOMATA {
+        if self.automata == 2 {
             self.second.trans.push(trans)
         } else {
             self.initial.trans.push(trans)

@@ -41,5 +41,5 @@ returns-clause-reads c =
     let room : length (table_of p r) < 16384 = omega (arith, c.len.ensures.value, ap length c.table.ensures) in
     word_leads (terminal.Named p) closed closed r c.advance.new.self text c.advance.result.now tt closed_calm stands
     (declared_new p text (state_of r) (may_declare p r c.requires) stands.short (roomy_table p r text c.requires room) (sym c.is_double.ensures ∙ c.if-is_double.false))
-    (sym c.in_ok-add_state.ensures.there.tokens ∙ c.advance.ensures.token) (c.advance.ensures.end ∙ c.in_ok-add_state.ensures.there.end)
+    (sym c.in_ok-add_state.ensures.left.tokens ∙ c.advance.ensures.token) (c.advance.ensures.end ∙ c.in_ok-add_state.ensures.left.end)
     (c.advance.ensures.state ∙ c.in_ok-add_state.ensures.ok)

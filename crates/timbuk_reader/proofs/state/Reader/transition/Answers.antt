@@ -32,8 +32,8 @@ returns-in_err-leaf-in-State-clause-reads c =
           (state_head_stops r c.leaf.new.self c.in_ok-name.name.now c.in_ok-name.ensures.ok told.advanced c.in-State.from means e told.seen told.told) in
     grind (arith, common_steps)
 
-pub move_from-requires-clause-below : goal.move_from-requires-clause-below
-move_from-requires-clause-below c =
+pub epsilon_target-requires-clause-below : goal.epsilon_target-requires-clause-below
+epsilon_target-requires-clause-below c =
     let told = c.in_ok-leaf-in-State.ensures in
     head_state_below c.in_ok-name.name.now c.args.self.now c.leaf.new.self c.in-State.from (sym c.meaning.ensures ∙ ap meant_by c.in-State.is) told.0.state
 
@@ -41,14 +41,14 @@ pub returns-in_ok-leaf-in-State-clause-reads : goal.returns-in_ok-leaf-in-State-
 returns-in_ok-leaf-in-State-clause-reads c =
     let r = c.args.self.now in
     let m = c.leaf.new.self in
-    let u = c.move_from.new.self in
+    let u = c.epsilon_target.new.self in
     let q = c.in-State.from in
     let o = headed (state_head q) [] in
     let told = c.in_ok-leaf-in-State.ensures in
     let means = sym c.meaning.ensures ∙ ap meant_by c.in-State.is in
-    then_reads (name place.TransitionHead) (head_arguments then target) closed o closed r m u c.move_from.result
+    then_reads (name place.TransitionHead) (head_arguments then target) closed o closed r m u c.epsilon_target.result
     (state_head_leads r m c.in_ok-name.name.now c.in_ok-name.ensures.ok told.0 q means told.1)
-    (then_reads head_arguments target o o closed m m u c.move_from.result (no_arguments (state_head q) m told.1) c.move_from.ensures.reads)
+    (then_reads head_arguments target o o closed m m u c.epsilon_target.result (no_arguments (state_head q) m told.1) c.epsilon_target.ensures.reads)
 
 pub returns-in_err-leaf-in-Symbol-default-eq0-clause-reads : goal.returns-in_err-leaf-in-Symbol-default-eq0-clause-reads
 returns-in_err-leaf-in-Symbol-default-eq0-clause-reads c =
@@ -62,8 +62,8 @@ returns-in_err-leaf-in-Symbol-default-eq0-clause-reads c =
           (constant_stops r c.leaf-in-Symbol-default-eq0.new.self c.in_ok-name.name.now c.in_ok-name.ensures.ok told.advanced f means e told.seen told.told) in
     grind (arith, common_steps)
 
-pub move_up-requires-clause-over : goal.move_up-requires-clause-over
-move_up-requires-clause-over c =
+pub transition_target-requires-clause-over : goal.transition_target-requires-clause-over
+transition_target-requires-clause-over c =
     let r = c.args.self.now in
     let f = c.in-Symbol-default-eq0.sym in
     let told = c.in_ok-leaf-in-Symbol-default-eq0.ensures in
@@ -75,15 +75,15 @@ pub returns-in_ok-leaf-in-Symbol-default-eq0-clause-reads : goal.returns-in_ok-l
 returns-in_ok-leaf-in-Symbol-default-eq0-clause-reads c =
     let r = c.args.self.now in
     let m = c.leaf-in-Symbol-default-eq0.new.self in
-    let u = c.move_up.new.self in
+    let u = c.transition_target.new.self in
     let f = c.in-Symbol-default-eq0.sym in
     let o = headed (symbol_head f) [] in
     let told = c.in_ok-leaf-in-Symbol-default-eq0.ensures in
     let means = sym c.meaning.ensures ∙ ap meant_by c.in-Symbol-default-eq0.is ∙ ap (a_symbol f) c.in-Symbol-default-eq0.field-1-test in
-    let reads = subst (λ (qs : List ℕ). Reads target (headed (symbol_head f) qs) m c.move_up.result closed u) c.new.ensures c.move_up.ensures.reads in
-    then_reads (name place.TransitionHead) (head_arguments then target) closed o closed r m u c.move_up.result
+    let reads = subst (λ (qs : List ℕ). Reads target (headed (symbol_head f) qs) m c.transition_target.result closed u) c.new.ensures c.transition_target.ensures.reads in
+    then_reads (name place.TransitionHead) (head_arguments then target) closed o closed r m u c.transition_target.result
     (constant_leads r m c.in_ok-name.name.now c.in_ok-name.ensures.ok told.0 f means told.1)
-    (then_reads head_arguments target o o closed m m u c.move_up.result (no_arguments (symbol_head f) m told.1) reads)
+    (then_reads head_arguments target o o closed m m u c.transition_target.result (no_arguments (symbol_head f) m told.1) reads)
 
 pub returns-in_err-args-in-Symbol-clause-reads : goal.returns-in_err-args-in-Symbol-clause-reads
 returns-in_err-args-in-Symbol-clause-reads c =
@@ -92,7 +92,7 @@ returns-in_err-args-in-Symbol-clause-reads c =
     let f = c.in-Symbol.sym in
     let n = c.in-Symbol.arity in
     let e = c.in_err-args-in-Symbol.field-0.0 in
-    let taken : Advanced r m = record { token = c.advance.result.now; tokens = c.advance.ensures.token; state = c.advance.ensures.state; end = c.advance.ensures.end } in
+    let taken : Advanced r m = record { token = c.advance.result.now; tokens = c.advance.ensures.token; state = c.advance.ensures.state; bound = c.advance.ensures.bound; end = c.advance.ensures.end } in
     let means = sym c.meaning.ensures ∙ ap meant_by c.in-Symbol.is in
     let stops : Stops transition closed r e =
         later_stops (name place.TransitionHead) (head_arguments then target) closed (begun f n) r m e
@@ -100,8 +100,8 @@ returns-in_err-args-in-Symbol-clause-reads c =
           (then_stops head_arguments target (begun f n) m e (c.in_err-args-in-Symbol.ensures.err.by f)) in
     grind (arith, common_steps)
 
-pub move_up-requires-in-Symbol-clause-over : goal.move_up-requires-in-Symbol-clause-over
-move_up-requires-in-Symbol-clause-over c =
+pub transition_target-requires-in-Symbol-clause-over : goal.transition_target-requires-in-Symbol-clause-over
+transition_target-requires-in-Symbol-clause-over c =
     let r = c.args.self.now in
     let f = c.in-Symbol.sym in
     let n = c.in-Symbol.arity in
@@ -114,15 +114,15 @@ returns-in_ok-args-in-Symbol-clause-reads c =
     let r = c.args.self.now in
     let m = c.advance.new.self in
     let v = c.transition_arguments.new.self in
-    let u = c.move_up-in-Symbol.new.self in
+    let u = c.transition_target-in-Symbol.new.self in
     let f = c.in-Symbol.sym in
     let n = c.in-Symbol.arity in
     let args = c.in_ok-args-in-Symbol.args in
-    let taken : Advanced r m = record { token = c.advance.result.now; tokens = c.advance.ensures.token; state = c.advance.ensures.state; end = c.advance.ensures.end } in
+    let taken : Advanced r m = record { token = c.advance.result.now; tokens = c.advance.ensures.token; state = c.advance.ensures.state; bound = c.advance.ensures.bound; end = c.advance.ensures.end } in
     let means = sym c.meaning.ensures ∙ ap meant_by c.in-Symbol.is in
-    then_reads (name place.TransitionHead) (head_arguments then target) closed (begun f n) closed r m u c.move_up-in-Symbol.result
+    then_reads (name place.TransitionHead) (head_arguments then target) closed (begun f n) closed r m u c.transition_target-in-Symbol.result
     (function_leads r m c.in_ok-name.name.now c.in_ok-name.ensures.ok taken f n c.in-Symbol.arity-test.1 means)
-    (then_reads head_arguments target (begun f n) (headed (symbol_head f) args) closed m v u c.move_up-in-Symbol.result (c.in_ok-args-in-Symbol.ensures.ok.by f) c.move_up-in-Symbol.ensures.reads)
+    (then_reads head_arguments target (begun f n) (headed (symbol_head f) args) closed m v u c.transition_target-in-Symbol.result (c.in_ok-args-in-Symbol.ensures.ok.by f) c.transition_target-in-Symbol.ensures.reads)
 
 pub returns-in-Variable-clause-reads : goal.returns-in-Variable-clause-reads
 returns-in-Variable-clause-reads c =

@@ -11,7 +11,7 @@ use Rattle.timbuk_reader.specs.AutomatonReads.{headed, target, with_trans}
 use Rattle.timbuk_reader.proofs.Steps.{then_leads, later_stops}
 use Rattle.timbuk_reader.proofs.StepsTokens.{mark_leads}
 use Rattle.timbuk_reader.proofs.StepsAutomaton.{headed_calm, trans_leads, target_stops}
-use Rattle.timbuk_reader.proofs.state.Reader.move_up.Goals as goal
+use Rattle.timbuk_reader.proofs.state.Reader.transition_target.Goals as goal
 
 pub returns-in_err-to-clause-reads : goal.returns-in_err-to-clause-reads
 returns-in_err-to-clause-reads c =
@@ -35,5 +35,5 @@ returns-clause-reads c =
     let u = c.add_transition.new.self in
     then_leads (one terminal.Arrow) (name place.TransitionTarget) o o closed r m u
     (mark_leads terminal.Arrow o r m tt (headed_calm (symbol_head f) c.args.args) c.in_ok-mark.ensures.takes)
-    (trans_leads f c.args.args c.in_ok-to.to m v u c.in_ok-to.ensures.ok c.in_ok-add_transition.ensures.there
+    (trans_leads f c.args.args c.in_ok-to.to m v u c.in_ok-to.ensures.ok c.in_ok-add_transition.ensures.left
       (c.in_ok-add_transition.ensures.ok ∙ ap (λ (args : List ℕ). with_trans (trans_of f args c.in_ok-to.to) (state_of v)) (c.in_ok-args.ensures ∙ c.as_slice.ensures)))

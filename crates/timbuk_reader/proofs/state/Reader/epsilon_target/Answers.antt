@@ -10,7 +10,7 @@ use Rattle.timbuk_reader.specs.AutomatonReads.{headed, target}
 use Rattle.timbuk_reader.proofs.Steps.{then_leads, later_stops}
 use Rattle.timbuk_reader.proofs.StepsTokens.{mark_leads}
 use Rattle.timbuk_reader.proofs.StepsAutomaton.{headed_calm, epsilon_leads, target_stops}
-use Rattle.timbuk_reader.proofs.state.Reader.move_from.Goals as goal
+use Rattle.timbuk_reader.proofs.state.Reader.epsilon_target.Goals as goal
 
 pub returns-clause-reads : goal.returns-clause-reads
 returns-clause-reads c =
@@ -20,7 +20,7 @@ returns-clause-reads c =
     let u = c.add_epsilon.new.self in
     then_leads (one terminal.Arrow) (name place.TransitionTarget) o o closed r m u
     (mark_leads terminal.Arrow o r m tt (headed_calm (state_head c.args.from) []) c.in_ok-mark.ensures.takes)
-    (epsilon_leads c.args.from c.in_ok-to.to m c.state.new.self u c.in_ok-to.ensures.ok c.in_ok-add_epsilon.ensures.there c.in_ok-add_epsilon.ensures.ok)
+    (epsilon_leads c.args.from c.in_ok-to.to m c.state.new.self u c.in_ok-to.ensures.ok c.in_ok-add_epsilon.ensures.left c.in_ok-add_epsilon.ensures.ok)
 
 pub returns-in_err-to-clause-reads : goal.returns-in_err-to-clause-reads
 returns-in_err-to-clause-reads c =
