@@ -1,5 +1,5 @@
 -- The states of an automaton that are used, one token at a time.
-use Rattle.std.proofs.Common.{◌≡◌, ◌≢◌, ◌⊎◌, inl, inr, ℕ, zero, suc, eq-eqb, ◌+◌, ◌<◌, ◌≤◌, length, arith, Bool, true, false, not, ◌&&◌, ◌||◌, ◌==◌, cond, List, [], ◌∷◌, ◌++◌, Option, Some, None, Ok, Err, Result, refl, ap, sym, ◌∙◌, subst, append_assoc}
+use Rattle.std.proofs.Common.{◌≡◌, ◌≢◌, ◌⊎◌, inl, inr, ℕ, zero, suc, eq-eqb, ◌+◌, ◌<◌, ◌≤◌, length, arith, Bool, true, false, not, ◌||◌, ◌==◌, cond, List, [], ◌∷◌, ◌++◌, Option, Some, None, Err, refl, ap, sym, ◌∙◌, subst, append_assoc}
 use Rattle.std.specs.Prelude.{nat_lt, nat_le, position, option_map, unwrap_or, slice_get}
 use Rattle.std.specs.Str.{bytes_eq}
 use Rattle.std.proofs.Math.Bool.{and-false}
@@ -19,19 +19,18 @@ use Rattle.timbuk_grammar.specs.declared.terminal.Terminal.TheVariants as termin
 use Rattle.timbuk_grammar.specs.Matching.{matches}
 use Rattle.timbuk_grammar.specs.Grammar.{Part, one, ◌then◌, many, name}
 use Rattle.timbuk_grammar.proofs.Differ as differ
-use Rattle.timbuk_reader.specs.declared.fault.SpecKind.{SpecKind}
 use Rattle.timbuk_reader.specs.declared.fault.SpecKind.TheVariants as kind
 use Rattle.timbuk_reader.specs.declared.fault.LimitName.{LimitName}
 use Rattle.timbuk_reader.specs.declared.fault.LimitName.TheVariants as limit
 use Rattle.timbuk_reader.specs.declared.fault.SpecError.{SpecError}
 use Rattle.timbuk_reader.specs.declared.fault.SpecError.TheVariants as error
 use Rattle.timbuk_reader.specs.declared.state.Reader.{Reader}
-use Rattle.timbuk_reader.specs.Declarations.{Text, Application, Declared, Started, Head, no_head, state_head, symbol_head, Last, any, leaf, constant, Meaning, unknown, a_variable, a_state, a_symbol, or_else, as_symbol, as_state, meaning, current, with_current, uses, placed, named, adds}
+use Rattle.timbuk_reader.specs.Declarations.{Text, Application, Declared, Started, Head, no_head, state_head, symbol_head, any, leaf, constant, unknown, a_variable, a_state, a_symbol, or_else, as_symbol, as_state, meaning, current, with_current, uses, placed, named, adds}
 use Rattle.timbuk_reader.specs.Rows.{or, when, wrong_arity, wrong_count, over, passed, misnamed, is_in, is_double}
-use Rattle.timbuk_reader.specs.Reading.{Outcome, End, outcome}
-use Rattle.timbuk_reader.specs.View.{Open, closed, declared, inside, state_of, end_of, settled, from, as_error, sees, refusal_at, refusal}
-use Rattle.timbuk_reader.specs.Reads.{Leads, Stops, Reads, IsCalm, Took, Missed, Stands, IsLong, HasNoWord, missed, long}
-use Rattle.timbuk_reader.specs.Patterns.{Advanced, LeadsToParen}
+use Rattle.timbuk_reader.specs.Reading.{End, outcome}
+use Rattle.timbuk_reader.specs.View.{Open, closed, declared, state_of, end_of, settled, from, as_error, sees, refusal_at, refusal}
+use Rattle.timbuk_reader.specs.Reads.{Leads, Stops, IsCalm, Stands, HasNoWord, missed, long}
+use Rattle.timbuk_reader.specs.Patterns.{Advanced}
 use Rattle.timbuk_reader.specs.declared.meaning.Meaning.{Meaning as Told}
 use Rattle.timbuk_reader.specs.declared.meaning.Meaning.TheVariants as told
 use Rattle.timbuk_reader.specs.Meanings.{meant_by}
@@ -183,7 +182,7 @@ module _ (p : Place) (o : Open) (r : Reader) (u : MeansState p) (ready : IsReady
         let d = declared o r in
         ap (λ z. as_error (settled z)) (ap (outcome (end_of r) (name p ∷ ps) d) s.tokens
         ∙ step_fault (name p ∷ ps) (terminal.Named p) ps (end_of r) d s.token s.rest kind.UnknownName (one_front (terminal.Named p) ps) s.matched
-          (row_other (terminal.Named p) d s.token tt s.matched (quiet_at s.token s.rest s.tokens) ∙ ap (λ z. use_row (terminal.Named p) z d) s.text_is ∙ unknown_row p text d u s.short (open_meaning p text o r ∙ m))
+        (row_other (terminal.Named p) d s.token tt s.matched (quiet_at s.token s.rest s.tokens) ∙ ap (λ z. use_row (terminal.Named p) z d) s.text_is ∙ unknown_row p text d u s.short (open_meaning p text o r ∙ m))
         ∙ ap (λ xs. Err (refusal_at kind.UnknownName (end_of r) xs)) (sym s.tokens)) ∙ ap Err (sym told);
   }
 
@@ -251,7 +250,7 @@ final_leads r m u state h k e = kept_leads place.FinalState closed closed r m u 
 
 closing_by : (b : Bool) (a : Started) (head : Head) (args : List ℕ) (r : Reader)
     → cond b (record (state_of r) { second = a }) (record (state_of r) { initial = a })
-      ≡ record (cond b (record (declared (headed head args) r) { second = a }) (record (declared (headed head args) r) { initial = a })) { head = no_head; head_args = []; last = any }
+    ≡ record (cond b (record (declared (headed head args) r) { second = a }) (record (declared (headed head args) r) { initial = a })) { head = no_head; head_args = []; last = any }
 closing_by true a head args r = refl
 closing_by false a head args r = refl
 
@@ -343,7 +342,7 @@ automaton_leads r u x few seen tokens end state = record {
       let matched : matches terminal.Automaton x ≡ true = rw tokens at seen in
       ap settled (ap (outcome (end_of r) (one terminal.Automaton ∷ ps) d) tokens
       ∙ step_on (one terminal.Automaton ∷ ps) terminal.Automaton ps (end_of r) d x u.tokens.now (one_front terminal.Automaton ps) matched
-        (row_other terminal.Automaton d x tt matched (ready_quiet d x refl refl) ∙ counted_row x.text d None (below 2 d.automata limit.Automata few))
+      (row_other terminal.Automaton d x tt matched (ready_quiet d x refl refl) ∙ counted_row x.text d None (below 2 d.automata limit.Automata few))
       ∙ (λ i. outcome (sym end i) ps (sym state i) u.tokens.now));
 }
 

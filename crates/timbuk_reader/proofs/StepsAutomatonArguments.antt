@@ -1,10 +1,9 @@
 -- The arguments of a symbol, one token at a time, and those of a transition.
-use Rattle.std.proofs.Common.{◌≡◌, ◌≢◌, ℕ, zero, suc, ◌+◌, ◌<◌, ◌≤◌, length, arith, Bool, true, false, not, ◌&&◌, ◌||◌, List, [], ◌∷◌, ◌++◌, Some, None, Ok, Err, refl, ap, sym, ◌∙◌, subst}
+use Rattle.std.proofs.Common.{◌≡◌, ℕ, ◌<◌, length, arith, true, false, List, [], ◌∷◌, ◌++◌, None, Ok, Err, refl, ap, sym, ◌∙◌, subst}
 use Rattle.std.specs.Prelude.{map, nat_lt, nat_le, Result, IfOk}
 use Rattle.std.proofs.Math.Bool.{and-false}
 use Rattle.std.proofs.lemmas.Bool.Decides.{nat_tests}
 use Rattle.std.proofs.lemmas.List.{map-append, length-map}
-use Rattle.ranked_terms.specs.declared.term.Shape.{Shape}
 use Rattle.ranked_terms.specs.declared.term.Shape.TheVariants as shape
 use Rattle.timbuk_lex.specs.declared.lexeme.Lexeme.{Lexeme}
 use Rattle.timbuk_lex.specs.declared.lex.Ending.{Ending}
@@ -19,13 +18,13 @@ use Rattle.timbuk_reader.specs.declared.fault.SpecKind.TheVariants as kind
 use Rattle.timbuk_reader.specs.declared.fault.SpecError.{SpecError}
 use Rattle.timbuk_reader.specs.declared.fault.SpecError.TheVariants as error
 use Rattle.timbuk_reader.specs.declared.state.Reader.{Reader}
-use Rattle.timbuk_reader.specs.Declarations.{Declared, Application, any, function, placed, closes, adds, symbol_head}
+use Rattle.timbuk_reader.specs.Declarations.{Declared, Application, any, function, closes, adds}
 use Rattle.timbuk_reader.specs.Rows.{wrong_arity, wrong_count, passed, misnamed, end_row}
 use Rattle.timbuk_reader.specs.Reading.{End, outcome, ends_by}
-use Rattle.timbuk_reader.specs.View.{Open, declared, state_of, end_of, settled, from, as_error, sees, refusal_at, end_fault, refusal}
-use Rattle.timbuk_reader.specs.Reads.{Leads, Stops, Took, Missed}
+use Rattle.timbuk_reader.specs.View.{Open, declared, end_of, settled, from, as_error, sees, refusal_at, end_fault, refusal}
+use Rattle.timbuk_reader.specs.Reads.{Leads, Stops, Took}
 use Rattle.timbuk_reader.specs.Patterns.{LacksArguments, LacksArgument, too_few, no_comma, LacksEnd, too_many, no_end}
-use Rattle.timbuk_reader.specs.AutomatonReads.{head_arguments, argument_of, arguing, begun, headed, miscounts, IsReady, SameTokens, ReadState, StopsState, ReadArgument, StopsArgument, ReadArguments, StopsArguments, SomeArguments}
+use Rattle.timbuk_reader.specs.AutomatonReads.{head_arguments, argument_of, arguing, begun, miscounts, IsReady, ReadState, StopsState, ReadArgument, StopsArgument, ReadArguments, StopsArguments, SomeArguments}
 use Rattle.timbuk_reader.proofs.Steps.{alike, both_alike, one_front, then_head, maybe_take, many_take, many_skip, choice_unseen}
 use Rattle.timbuk_reader.proofs.StepsTokens.{use_row, Quiet, row_other, step_on, step_wrong, step_unexpected, step_end, mark_row, mark_adds, declared_same}
 use Rattle.timbuk_reader.proofs.StepsLast.{after}

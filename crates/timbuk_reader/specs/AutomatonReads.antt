@@ -1,5 +1,5 @@
 -- What the functions that read automata do.
-use Rattle.std.specs.Prelude.{◌≡◌, ◌≢◌, ◌<◌, ◌≤◌, ℕ, zero, suc, Bool, false, List, [], ◌∷◌, ◌++◌, length, map}
+use Rattle.std.specs.Prelude.{◌≡◌, ◌≢◌, ◌<◌, ◌≤◌, ℕ, Bool, false, List, [], ◌∷◌, ◌++◌, length, map}
 use Rattle.ranked_terms.specs.declared.term.Shape.TheVariants as shape
 use Rattle.ta_core.specs.declared.trans.Trans.{Trans}
 use Rattle.timbuk_lex.specs.declared.lexeme.Lexeme.{Lexeme}
@@ -9,7 +9,7 @@ use Rattle.timbuk_grammar.specs.declared.terminal.Terminal.TheVariants as termin
 use Rattle.timbuk_grammar.specs.Grammar.{Part, one, ◌then◌, maybe, many, arguments, name, transition}
 use Rattle.timbuk_reader.specs.declared.fault.SpecError.{SpecError}
 use Rattle.timbuk_reader.specs.declared.state.Reader.{Reader}
-use Rattle.timbuk_reader.specs.Declarations.{Text, Application, Declared, Head, state_head, symbol_head, any, function, current, with_current, uses, placed}
+use Rattle.timbuk_reader.specs.Declarations.{Text, Application, Declared, Head, symbol_head, any, function, current, with_current, uses, placed}
 use Rattle.timbuk_reader.specs.Rows.{wrong_count}
 use Rattle.timbuk_reader.specs.Reading.{outcome}
 use Rattle.timbuk_reader.specs.View.{Open, closed, declared, state_of, end_of, settled, from}
@@ -109,7 +109,7 @@ pub record IsReady (o : Open) (r : Reader) : Type 0 where
 -- the state was read, whatever is open
 pub record ReadState (p : Place) (old : Reader) (state : ℕ) (new : Reader) : Type 0 where
   pub by : (o : Open) → IsReady o old → (ps : List Part)
-    → from o (name p ∷ ps) old ≡ settled (outcome (end_of new) ps (record (uses p state (placed p (shape.State state) (declared o new))) { last = any }) new.tokens.now)
+      → from o (name p ∷ ps) old ≡ settled (outcome (end_of new) ps (record (uses p state (placed p (shape.State state) (declared o new))) { last = any }) new.tokens.now)
 
 -- no state stands there, whatever is open
 pub record StopsState (p : Place) (old : Reader) (e : SpecError) : Type 0 where
@@ -151,4 +151,4 @@ pub record StopsArguments (arity : ℕ) (old : Reader) (e : SpecError) : Type 0 
 -- so many of the arguments were read
 pub record SomeArguments (arity : ℕ) (old : Reader) (args : List ℕ) (new : Reader) : Type 0 where
   pub by : (sym : ℕ) (ps : List Part)
-    → from (begun sym arity) (head_arguments ∷ ps) old ≡ from (arguing sym arity args) ((many (one terminal.Comma then name place.TransitionArgument) then one terminal.CloseParen) ∷ ps) new
+      → from (begun sym arity) (head_arguments ∷ ps) old ≡ from (arguing sym arity args) ((many (one terminal.Comma then name place.TransitionArgument) then one terminal.CloseParen) ∷ ps) new

@@ -1,4 +1,4 @@
-use Rattle.std.proofs.Common.{◌≡◌, ◌++◌, ◌∷◌, [], false, List, subst, ap, ◌∙◌}
+use Rattle.std.proofs.Common.{◌≡◌, false, List, subst, ap, ◌∙◌}
 use Rattle.indexmap.proofs.MapLemmas.{OnOk-map}
 use Rattle.timbuk_reader.specs.Declarations.{Text}
 use Rattle.timbuk_reader.specs.Rows.{is_in}

@@ -13,5 +13,5 @@ pub returns-in_err-described_state-clause-reads : goal.returns-in_err-described_
 returns-in_err-described_state-clause-reads c =
     let e = c.in_err-described_state.field-0.0 in
     let stops : Stops (many (described)) closed c.args.self.now e =
-        turns_err (described) (terminal.Named place.DescribedState) c.args.self.now c.loop-self.self e c.loop-self.invariant.turns (then_head (terminal.Named place.DescribedState) (one terminal.Colon then one terminal.Quoted)) (sym c.sees.ensures.value ∙ c.loop-self-test.true) c.in_err-described_state.ensures.reads in
+    turns_err (described) (terminal.Named place.DescribedState) c.args.self.now c.loop-self.self e c.loop-self.invariant.turns (then_head (terminal.Named place.DescribedState) (one terminal.Colon then one terminal.Quoted)) (sym c.sees.ensures.value ∙ c.loop-self-test.true) c.in_err-described_state.ensures.reads in
     grind (arith, common_steps)

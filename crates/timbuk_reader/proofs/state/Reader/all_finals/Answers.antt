@@ -12,5 +12,5 @@ pub returns-in_err-final_state-clause-reads : goal.returns-in_err-final_state-cl
 returns-in_err-final_state-clause-reads c =
     let e = c.in_err-final_state.field-0.0 in
     let stops : Stops (many (name place.FinalState)) closed c.args.self.now e =
-        turns_err (name place.FinalState) (terminal.Named place.FinalState) c.args.self.now c.loop-self.self e c.loop-self.invariant.turns (one_head (terminal.Named place.FinalState)) (sym c.sees.ensures.value ∙ c.loop-self-test.true) c.in_err-final_state.ensures.reads in
+    turns_err (name place.FinalState) (terminal.Named place.FinalState) c.args.self.now c.loop-self.self e c.loop-self.invariant.turns (one_head (terminal.Named place.FinalState)) (sym c.sees.ensures.value ∙ c.loop-self-test.true) c.in_err-final_state.ensures.reads in
     grind (arith, common_steps)

@@ -13,5 +13,5 @@ pub returns-in_err-transition-clause-reads : goal.returns-in_err-transition-clau
 returns-in_err-transition-clause-reads c =
     let e = c.in_err-transition.field-0.0 in
     let stops : Stops (many (transition)) closed c.args.self.now e =
-        turns_err (transition) (terminal.Named place.TransitionHead) c.args.self.now c.loop-self.self e c.loop-self.invariant.turns (then_head (terminal.Named place.TransitionHead) (head_arguments then target)) (sym c.sees.ensures.value ∙ c.loop-self-test.true) c.in_err-transition.ensures.reads in
+    turns_err (transition) (terminal.Named place.TransitionHead) c.args.self.now c.loop-self.self e c.loop-self.invariant.turns (then_head (terminal.Named place.TransitionHead) (head_arguments then target)) (sym c.sees.ensures.value ∙ c.loop-self-test.true) c.in_err-transition.ensures.reads in
     grind (arith, common_steps)

@@ -29,7 +29,7 @@ returns-in_err-to-clause-reads c =
     let m = c.mark.new.self in
     let e = c.in_err-to.field-0.0 in
     let stops : Stops target o r e =
-        later_stops (one terminal.Arrow) (name place.TransitionTarget) o o r m e
-        (mark_leads terminal.Arrow o r m tt (headed_calm (state_head c.args.from) []) c.in_ok-mark.ensures.takes)
-        (target_stops (state_head c.args.from) [] m e c.in_err-to.ensures.err) in
+    later_stops (one terminal.Arrow) (name place.TransitionTarget) o o r m e
+    (mark_leads terminal.Arrow o r m tt (headed_calm (state_head c.args.from) []) c.in_ok-mark.ensures.takes)
+    (target_stops (state_head c.args.from) [] m e c.in_err-to.ensures.err) in
     grind (arith, common_steps)

@@ -15,5 +15,5 @@ returns-else-is_taken c =
     let text = c.args.name.now in
     let known : is_in (names_of r.signature ++ r.variables) text ≡ false = sym c.is_taken.ensures ∙ c.if-is_taken.false in
     let found : is_in (table_of p r) text ≡ c.is_some.result =
-        is_in-position (table_of p r) text ∙ ap (λ names. is_some (position (bytes_eq text) names)) (sym c.table.ensures) ∙ ap is_some (sym c.find.ensures) ∙ sym c.is_some.ensures in
+    is_in-position (table_of p r) text ∙ ap (λ names. is_some (position (bytes_eq text) names)) (sym c.table.ensures) ∙ ap is_some (sym c.find.ensures) ∙ sym c.is_some.ensures in
     sym (double_in_table p r text c.requires ∙ ap (λ b. b || is_in (table_of p r) text) known ∙ found)

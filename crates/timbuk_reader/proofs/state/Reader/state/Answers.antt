@@ -26,7 +26,7 @@ returns-in_err-leaf-clause-err c =
     let told = c.in_err-leaf.ensures in
     let means = sym c.meaning.ensures ∙ ap meant_by c.in-State.is in
     let stops : StopsState p r e =
-        record { by = λ o ready. applied_stops p o r (uses_means p c.requires) ready c.in_ok-name.name.now c.in-State.state c.leaf.new.self c.in_ok-name.ensures.ok means told.advanced e told.seen told.told } in
+    record { by = λ o ready. applied_stops p o r (uses_means p c.requires) ready c.in_ok-name.name.now c.in-State.state c.leaf.new.self c.in_ok-name.ensures.ok means told.advanced e told.seen told.told } in
     grind (arith, common_steps)
 
 pub returns-clause-ok : goal.returns-clause-ok

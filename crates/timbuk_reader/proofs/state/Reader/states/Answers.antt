@@ -13,5 +13,5 @@ returns-in_err-declared_state-clause-reads c =
     let p = c.args.place in
     let e = c.in_err-declared_state.field-0.0 in
     let stops : Stops (many (state p)) closed c.args.self.now e =
-        turns_err (state p) (terminal.Named p) c.args.self.now c.loop-place.self e c.loop-place.invariant.turns (then_head (terminal.Named p) no_arity) (sym c.sees.ensures.value ∙ c.loop-place-test.true) c.in_err-declared_state.ensures.reads in
+    turns_err (state p) (terminal.Named p) c.args.self.now c.loop-place.self e c.loop-place.invariant.turns (then_head (terminal.Named p) no_arity) (sym c.sees.ensures.value ∙ c.loop-place-test.true) c.in_err-declared_state.ensures.reads in
     grind (arith, common_steps)

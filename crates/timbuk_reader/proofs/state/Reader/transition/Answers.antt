@@ -5,7 +5,7 @@ use Rattle.timbuk_grammar.specs.Grammar.{◌then◌, name, transition}
 use Rattle.timbuk_grammar.specs.declared.terminal.Place.TheVariants as place
 use Rattle.timbuk_reader.specs.Declarations.{Declared, a_symbol, state_head, symbol_head}
 use Rattle.timbuk_reader.specs.Meanings.{meant_by}
-use Rattle.timbuk_reader.specs.View.{closed, state_of}
+use Rattle.timbuk_reader.specs.View.{closed}
 use Rattle.timbuk_reader.specs.Reads.{Stops, Reads}
 use Rattle.timbuk_reader.specs.Patterns.{Advanced}
 use Rattle.timbuk_reader.specs.AutomatonReads.{head_arguments, target, headed, begun}
@@ -18,7 +18,7 @@ returns-in_err-name-clause-reads c =
     let r = c.args.self.now in
     let e = c.in_err-name.field-0.0 in
     let stops : Stops transition closed r e =
-        then_stops (name place.TransitionHead) (head_arguments then target) closed r e (no_name_stops place.TransitionHead closed r tt (closed_ready r) e c.in_err-name.ensures.err) in
+    then_stops (name place.TransitionHead) (head_arguments then target) closed r e (no_name_stops place.TransitionHead closed r tt (closed_ready r) e c.in_err-name.ensures.err) in
     grind (arith, common_steps)
 
 pub returns-in_err-leaf-in-State-clause-reads : goal.returns-in_err-leaf-in-State-clause-reads
@@ -28,8 +28,8 @@ returns-in_err-leaf-in-State-clause-reads c =
     let told = c.in_err-leaf-in-State.ensures in
     let means = sym c.meaning.ensures ∙ ap meant_by c.in-State.is in
     let stops : Stops transition closed r e =
-        then_stops (name place.TransitionHead) (head_arguments then target) closed r e
-          (state_head_stops r c.leaf.new.self c.in_ok-name.name.now c.in_ok-name.ensures.ok told.advanced c.in-State.from means e told.seen told.told) in
+    then_stops (name place.TransitionHead) (head_arguments then target) closed r e
+    (state_head_stops r c.leaf.new.self c.in_ok-name.name.now c.in_ok-name.ensures.ok told.advanced c.in-State.from means e told.seen told.told) in
     grind (arith, common_steps)
 
 pub epsilon_target-requires-clause-below : goal.epsilon_target-requires-clause-below
@@ -58,8 +58,8 @@ returns-in_err-leaf-in-Symbol-default-eq0-clause-reads c =
     let told = c.in_err-leaf-in-Symbol-default-eq0.ensures in
     let means = sym c.meaning.ensures ∙ ap meant_by c.in-Symbol-default-eq0.is ∙ ap (a_symbol f) c.in-Symbol-default-eq0.field-1-test in
     let stops : Stops transition closed r e =
-        then_stops (name place.TransitionHead) (head_arguments then target) closed r e
-          (constant_stops r c.leaf-in-Symbol-default-eq0.new.self c.in_ok-name.name.now c.in_ok-name.ensures.ok told.advanced f means e told.seen told.told) in
+    then_stops (name place.TransitionHead) (head_arguments then target) closed r e
+    (constant_stops r c.leaf-in-Symbol-default-eq0.new.self c.in_ok-name.name.now c.in_ok-name.ensures.ok told.advanced f means e told.seen told.told) in
     grind (arith, common_steps)
 
 pub transition_target-requires-clause-over : goal.transition_target-requires-clause-over
@@ -95,9 +95,9 @@ returns-in_err-args-in-Symbol-clause-reads c =
     let taken : Advanced r m = record { token = c.advance.result.now; tokens = c.advance.ensures.token; state = c.advance.ensures.state; bound = c.advance.ensures.bound; end = c.advance.ensures.end } in
     let means = sym c.meaning.ensures ∙ ap meant_by c.in-Symbol.is in
     let stops : Stops transition closed r e =
-        later_stops (name place.TransitionHead) (head_arguments then target) closed (begun f n) r m e
-          (function_leads r m c.in_ok-name.name.now c.in_ok-name.ensures.ok taken f n c.in-Symbol.arity-test.1 means)
-          (then_stops head_arguments target (begun f n) m e (c.in_err-args-in-Symbol.ensures.err.by f)) in
+    later_stops (name place.TransitionHead) (head_arguments then target) closed (begun f n) r m e
+    (function_leads r m c.in_ok-name.name.now c.in_ok-name.ensures.ok taken f n c.in-Symbol.arity-test.1 means)
+    (then_stops head_arguments target (begun f n) m e (c.in_err-args-in-Symbol.ensures.err.by f)) in
     grind (arith, common_steps)
 
 pub transition_target-requires-in-Symbol-clause-over : goal.transition_target-requires-in-Symbol-clause-over

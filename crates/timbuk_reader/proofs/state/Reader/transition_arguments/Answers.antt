@@ -18,7 +18,7 @@ pub returns-in_err-transition_argument-clause-err : goal.returns-in_err-transiti
 returns-in_err-transition_argument-clause-err c =
     let e = c.in_err-transition_argument.field-0.0 in
     let stops : StopsArguments c.args.arity c.args.self.now e =
-        first_stops c.args.arity c.args.self.now c.first_argument.new.self e c.requires c.in_ok-first_argument.ensures c.in_err-transition_argument.ensures.err in
+    first_stops c.args.arity c.args.self.now c.first_argument.new.self e c.requires c.in_ok-first_argument.ensures c.in_err-transition_argument.ensures.err in
     grind (arith, common_steps)
 
 pub loop-self-init : goal.loop-self-init
@@ -55,7 +55,7 @@ returns-in_err-transition_argument-2-clause-err c =
     let e = c.in_err-transition_argument-2.field-0.0 in
     let less : length args < n = omega (arith, c.len.ensures) in
     let stops : StopsArguments n c.args.self.now e =
-        next_stops n c.args.self.now v c.next_argument.new.self args e c.loop-self.invariant.read less c.in_ok-next_argument.ensures c.in_err-transition_argument-2.ensures.err in
+    next_stops n c.args.self.now v c.next_argument.new.self args e c.loop-self.invariant.read less c.in_ok-next_argument.ensures c.in_err-transition_argument-2.ensures.err in
     grind (arith, common_steps)
 
 pub loop-self-preserved : goal.loop-self-preserved

@@ -20,9 +20,9 @@ returns-in_err-to-clause-reads c =
     let m = c.mark.new.self in
     let e = c.in_err-to.field-0.0 in
     let stops : Stops target o r e =
-        later_stops (one terminal.Arrow) (name place.TransitionTarget) o o r m e
-          (mark_leads terminal.Arrow o r m tt (headed_calm (symbol_head c.args.sym) c.args.args) c.in_ok-mark.ensures.takes)
-          (target_stops (symbol_head c.args.sym) c.args.args m e c.in_err-to.ensures.err) in
+    later_stops (one terminal.Arrow) (name place.TransitionTarget) o o r m e
+    (mark_leads terminal.Arrow o r m tt (headed_calm (symbol_head c.args.sym) c.args.args) c.in_ok-mark.ensures.takes)
+    (target_stops (symbol_head c.args.sym) c.args.args m e c.in_err-to.ensures.err) in
     grind (arith, common_steps)
 
 pub returns-clause-reads : goal.returns-clause-reads
@@ -36,4 +36,4 @@ returns-clause-reads c =
     then_leads (one terminal.Arrow) (name place.TransitionTarget) o o closed r m u
     (mark_leads terminal.Arrow o r m tt (headed_calm (symbol_head f) c.args.args) c.in_ok-mark.ensures.takes)
     (trans_leads f c.args.args c.in_ok-to.to m v u c.in_ok-to.ensures.ok c.in_ok-add_transition.ensures.left
-      (c.in_ok-add_transition.ensures.ok ∙ ap (λ (args : List ℕ). with_trans (trans_of f args c.in_ok-to.to) (state_of v)) (c.in_ok-args.ensures ∙ c.as_slice.ensures)))
+    (c.in_ok-add_transition.ensures.ok ∙ ap (λ (args : List ℕ). with_trans (trans_of f args c.in_ok-to.to) (state_of v)) (c.in_ok-args.ensures ∙ c.as_slice.ensures)))
