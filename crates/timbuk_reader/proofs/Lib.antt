@@ -13,3 +13,6 @@ pub mod ReaderArguments
 pub mod ReaderFits
 pub mod ReaderSides
 pub mod ReaderRules
+pub mod ReaderAutomaton
+pub mod StepsAutomaton
+pub mod StepsAutomatonArguments

@@ -13,3 +13,4 @@ pub mod Kept
 pub mod Patterns
 pub mod Meanings
 pub mod Sides
+pub mod AutomatonReads

@@ -10,7 +10,6 @@ mod names;
 mod pattern;
 mod rules;
 mod state;
-mod stubs;
 mod symbols;
 
 pub use fault::{LimitName, SpecError, SpecFault, SpecKind};

@@ -146,7 +146,7 @@ impl<'s, 'a> Reader<'s, 'a> {
     }
 
     /// Takes the mark in front of the arguments of a symbol that has some. Anything else is refused as a wrong number.
-    fn first_argument(&mut self) -> Result<(), SpecError>
+    pub(crate) fn first_argument(&mut self) -> Result<(), SpecError>
         ensures { MatchResult result (λ _. Took terminal.OpenParen self.old self.new) (LacksArguments self.old) }
     {
         if !self.sees(Terminal::OpenParen) {
@@ -156,7 +156,7 @@ impl<'s, 'a> Reader<'s, 'a> {
     }
 
     /// Takes the mark in front of a further argument. The end of the arguments is refused as a wrong number.
-    fn next_argument(&mut self) -> Result<(), SpecError>
+    pub(crate) fn next_argument(&mut self) -> Result<(), SpecError>
         ensures { MatchResult result (λ _. Took terminal.Comma self.old self.new) (LacksArgument self.old) }
     {
         if self.sees(Terminal::CloseParen) {
@@ -166,7 +166,7 @@ impl<'s, 'a> Reader<'s, 'a> {
     }
 
     /// Takes the mark behind the last argument. A further argument is refused as a wrong number.
-    fn last_argument(&mut self) -> Result<(), SpecError>
+    pub(crate) fn last_argument(&mut self) -> Result<(), SpecError>
         ensures { MatchResult result (λ _. Took terminal.CloseParen self.old self.new) (LacksEnd self.old) }
     {
         if self.sees(Terminal::Comma) {
@@ -176,7 +176,7 @@ impl<'s, 'a> Reader<'s, 'a> {
     }
 
     /// Takes a name that has no arguments. A `(` behind it is refused in this way.
-    fn leaf(&mut self, kind: SpecKind) -> Result<(), SpecError>
+    pub(crate) fn leaf(&mut self, kind: SpecKind) -> Result<(), SpecError>
         requires { 0 < length self.old.tokens.now }
         ensures { EndsName kind self.old result self.new }
     {
