@@ -5,3 +5,4 @@ pub mod StepsTokens
 pub mod ReaderTokens
 pub mod StepsNames
 pub mod ReaderFresh
+pub mod StepsSections

@@ -10,3 +10,4 @@ pub mod NameTables
 pub mod View
 pub mod Reads
 pub mod Kept
+pub mod SectionReads

@@ -6,7 +6,9 @@ mod cursor;
 mod fault;
 mod laws;
 mod names;
+mod sections;
 mod state;
+mod stubs;
 mod symbols;
 
 pub use fault::{LimitName, SpecError, SpecFault, SpecKind};
