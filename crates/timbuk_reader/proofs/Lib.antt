@@ -6,3 +6,4 @@ pub mod ReaderTokens
 pub mod StepsNames
 pub mod ReaderFresh
 pub mod StepsSections
+pub mod ReaderSpec

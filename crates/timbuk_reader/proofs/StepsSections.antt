@@ -1,5 +1,5 @@
 -- The sections after the variables, and the end of a text.
-use Rattle.std.proofs.Common.{◌≡◌, ◌≢◌, Bool, true, false, ◌&&◌, ◌==◌, List, [], ◌∷◌, Option, Some, None, Ok, Err, arith, refl, ap, sym, ◌∙◌}
+use Rattle.std.proofs.Common.{◌≡◌, ◌≢◌, Bool, true, false, ◌&&◌, ◌==◌, List, [], ◌∷◌, length, Option, Some, None, Ok, Err, arith, refl, ap, sym, ◌∙◌}
 use Rattle.std.proofs.lemmas.Bool.Decides.{nat_tests}
 use Rattle.timbuk_lex.specs.declared.lexeme.Lexeme.{Lexeme}
 use Rattle.timbuk_lex.specs.declared.lex.Ending.{Ending}
@@ -67,6 +67,10 @@ token_refused end d (x ∷ xs) a l ne = step_unexpected [] end d x xs refl (calm
 byte_refused : (ending : Ending) (end : End) (d : Declared) → ending ≢ Whole → ends_by ending end [] d ≡ Err (end_fault ending end)
 byte_refused Whole end d ne = absurd (ne refl)
 byte_refused (Stopped why line column) end d ne = refl
+
+pub no_token : (xs : List Lexeme) → (length xs == 0) ≡ true → xs ≡ []
+no_token [] e = refl
+no_token (x ∷ xs) e = grind (arith, nat_tests)
 
 -- a token behind the last section
 pub end_at_token : (r : Reader) → r.tokens.now ≢ [] → as_error (at_end r) ≡ Err (error.Fault (refusal kind.Expected r))

@@ -6,6 +6,7 @@ mod cursor;
 mod fault;
 mod laws;
 mod names;
+mod reader;
 mod sections;
 mod state;
 mod stubs;
@@ -13,3 +14,4 @@ mod symbols;
 
 pub use fault::{LimitName, SpecError, SpecFault, SpecKind};
 pub use laws::{no_text_has_two_specs, texts_are_read};
+pub use reader::read_spec;
