@@ -7,3 +7,4 @@ pub mod StepsNames
 pub mod ReaderFresh
 pub mod StepsSections
 pub mod ReaderSpec
+pub mod ReaderSpecRules

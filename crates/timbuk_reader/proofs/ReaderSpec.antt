@@ -116,3 +116,7 @@ automaton_over signature count a A h e =
 
 pub states_whole : (count : ℕ) (a : Started) (A : TreeAutomaton) → IsAutomatonOf count a A → A.states ≡ range_with_len 0 A.next
 states_whole count a A h = h.states_are ∙ ap (range_with_len 0) (sym h.next_is)
+
+-- no approximation was read
+pub none_approximated : (count : ℕ) → nat_lt 0 count ≡ false → count ≡ 0
+none_approximated count e = grind (arith, nat_tests)
