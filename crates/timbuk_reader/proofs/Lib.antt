@@ -8,3 +8,4 @@ pub mod ReaderFresh
 pub mod StepsSections
 pub mod ReaderSpec
 pub mod ReaderSpecRules
+pub mod ReaderSpecText

@@ -1,13 +1,12 @@
 -- The sections after the variables, and the end of a text.
-use Rattle.std.proofs.Common.{◌≡◌, ◌≢◌, Bool, true, false, ◌&&◌, ◌==◌, List, [], ◌∷◌, length, Option, Some, None, Ok, Err, arith, refl, ap, sym, ◌∙◌}
+use Rattle.std.proofs.Common.{◌≡◌, ◌≢◌, Bool, true, false, ◌==◌, List, [], ◌∷◌, length, Ok, Err, arith, refl, ap, sym, ◌∙◌}
 use Rattle.std.proofs.lemmas.Bool.Decides.{nat_tests}
 use Rattle.timbuk_lex.specs.declared.lexeme.Lexeme.{Lexeme}
 use Rattle.timbuk_lex.specs.declared.lex.Ending.{Ending}
 use Rattle.timbuk_lex.specs.declared.lex.Ending.TheVariants.{Whole, Stopped}
-use Rattle.timbuk_grammar.specs.declared.terminal.Terminal.{Terminal}
 use Rattle.timbuk_grammar.specs.declared.terminal.Terminal.TheVariants as terminal
 use Rattle.timbuk_grammar.specs.Matching.{matches}
-use Rattle.timbuk_grammar.specs.Grammar.{Part, ◌then◌, maybe, many, section, ops, vars, file}
+use Rattle.timbuk_grammar.specs.Grammar.{Part, many, section}
 use Rattle.timbuk_grammar.specs.Next.{choice_of}
 use Rattle.timbuk_grammar.proofs.Differ as differ
 use Rattle.timbuk_reader.specs.declared.fault.SpecKind.TheVariants as kind
@@ -18,10 +17,10 @@ use Rattle.timbuk_reader.specs.declared.sections.Section.TheVariants.{System, Au
 use Rattle.timbuk_reader.specs.declared.state.Reader.{Reader}
 use Rattle.timbuk_reader.specs.Declarations.{Declared, any}
 use Rattle.timbuk_reader.specs.Rows.{when, end_row}
-use Rattle.timbuk_reader.specs.Reading.{Outcome, End, fault, outcome, ends_by, end_by}
-use Rattle.timbuk_reader.specs.View.{closed, declared, end_of, from, state_of, as_error, end_fault, refusal_at, refusal, sees}
-use Rattle.timbuk_reader.specs.Reads.{Leads, Stops, Reads, Turns}
-use Rattle.timbuk_reader.specs.SectionReads.{word_of, part_of, BeginsNone, from_start, at_end}
+use Rattle.timbuk_reader.specs.Reading.{End, fault, outcome, ends_by, end_by}
+use Rattle.timbuk_reader.specs.View.{closed, end_of, state_of, as_error, end_fault, refusal_at, refusal, sees}
+use Rattle.timbuk_reader.specs.Reads.{Leads, Stops, Turns}
+use Rattle.timbuk_reader.specs.SectionReads.{word_of, part_of, BeginsNone, at_end}
 use Rattle.timbuk_reader.proofs.Steps.{same_choice, same_end}
 use Rattle.timbuk_reader.proofs.StepsTokens.{calm_arity, step_unexpected}
 

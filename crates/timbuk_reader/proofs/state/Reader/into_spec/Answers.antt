@@ -1,4 +1,4 @@
-use Rattle.std.proofs.Common.{◌≡◌, ℕ, ◌+◌, ◌-◌, ◌≤◌, length, nat_lt, false, refl, sym, ap, subst, ◌∙◌, arith}
+use Rattle.std.proofs.Common.{◌≡◌, ◌+◌, ◌-◌, length, refl, ap, subst, ◌∙◌, arith}
 use Rattle.ta_core.specs.SpecRules.{entries_are_below}
 use Rattle.timbuk_reader.specs.View.{started}
 use Rattle.timbuk_reader.specs.Spelled.{IsAutomatonOf}
