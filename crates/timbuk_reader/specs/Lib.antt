@@ -11,3 +11,4 @@ pub mod View
 pub mod Reads
 pub mod Kept
 pub mod SectionReads
+pub mod Faults

@@ -2,16 +2,19 @@
 ghost use Rattle.std.specs.Prelude.{◌≡◌, ◌<◌, ◌≤◌, ◌-◌, ◌^◌, ◌==◌, not, All, Err, IfOk, IsTrue, filter, length};
 ghost use Rattle.std.specs.List.{range_with_len};
 ghost use Rattle.ta_core.specs.TreeAutomaton.{bare};
+ghost use Rattle.ta_core.specs.declared.spec.Spec.{Spec as Spelled};
 ghost use Rattle.timbuk_lex.specs.Laws.{HasWord};
-ghost use Rattle.timbuk_lex.specs.Places.{line_of, column_of};
+ghost use Rattle.timbuk_reader.specs.declared.fault.SpecFault.{SpecFault as Told};
 ghost use Rattle.timbuk_reader.specs.Declarations.{nothing};
 ghost use Rattle.timbuk_reader.specs.Reading.{read};
 ghost use Rattle.timbuk_reader.specs.Kept.{states_are_below, trans_are_below, eps_are_below};
 ghost use Rattle.timbuk_reader.specs.Spelled.{IsAutomatonOf, IsSpecOf};
+ghost use Rattle.timbuk_reader.specs.SpecText.{SpecText};
+ghost use Rattle.timbuk_reader.specs.Faults.{SpecFaultAt};
 ghost use Rattle.timbuk_reader.specs.Laws.{IsRead};
 ghost use Rattle.timbuk_reader.specs.View.{started, state_of, end_of};
 
-use crate::fault::{SpecError, SpecFault};
+use crate::fault::SpecError;
 use crate::names::NameTable;
 use crate::state::{Reader, StartedAutomaton};
 use ranked_terms::{Seq, Signature};
@@ -19,12 +22,23 @@ use std::alloc::{AllocError, Global};
 use ta_core::{Automaton, Spec};
 use timbuk_lex::{Lexed, Place, end_of, lex_of};
 
-/// Reads a text: the specification that it spells, or its first fault. The bytes are fewer than 4,294,967,295, so that lines
-/// and columns fit their types. The only other error is want of memory.
+/// Reads a text of fewer than 4,294,967,295 bytes: the specification that it spells, where it spells one. Else `Fault` has
+/// the first place at which the text is wrong, and what is wrong there. `Memory` comes at want of memory.
 pub fn read_spec(alloc: Global, bytes: &[u8]) -> Result<Spec, SpecError>
     requires { length bytes.now < 2 ^ 32 - 1 }
+    ensures found { IfOk result (SpecText bytes.now) }
+    ensures fault { (told : Told) → result ≡ Err (SpecError.Fault told) → SpecFaultAt bytes.now told }
+    ensures none { (told : Told) (spec : Spelled) → result ≡ Err (SpecError.Fault told) → SpecText bytes.now spec → ⊥ }
+{
+    read_text(alloc, bytes)
+}
+
+/// Reads a text token by token, up to its end or to the first token at which a row of the table of faults fits. The other error
+/// is want of memory.
+fn read_text(alloc: Global, bytes: &[u8]) -> Result<Spec, SpecError>
+    requires { length bytes.now < 2 ^ 32 - 1 }
     ensures read { IfOk result (IsRead bytes.now) }
-    ensures stops { (told : SpecFault) → result ≡ Err (SpecError.Fault told) → read bytes.now ≡ Err told }
+    ensures stops { (told : Told) → result ≡ Err (SpecError.Fault told) → read bytes.now ≡ Err told }
 {
     let lexed = lex_of(alloc, bytes)?;
     let mut reader = Reader::new(alloc, &lexed, end_of(bytes));
