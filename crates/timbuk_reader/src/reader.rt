@@ -133,6 +133,10 @@ fn automaton_of_states(alloc: Global, count: u32) -> Result<Automaton, AllocErro
 fn moves_of(alloc: Global, eps: &[(u32, u32)]) -> Result<Seq<(u32, u32)>, AllocError>
     ensures { IfOk result (λ moves. moves ≡ filter (λ e. not (e.0 == e.1)) eps.now) }
 {
-    let moves: Vec<(u32, u32)> = eps.iter().copied().filter(|(from, to)| from != to).collect(alloc)?;
+    let moves: Vec<(u32, u32)> = eps
+        .iter()
+        .copied()
+        .filter(|(from, to)| from != to)
+        .collect(alloc)?;
     Ok(Seq::from_vec(moves))
 }
