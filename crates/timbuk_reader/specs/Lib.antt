@@ -14,3 +14,5 @@ pub mod Patterns
 pub mod Meanings
 pub mod Sides
 pub mod AutomatonReads
+pub mod SectionReads
+pub mod Faults
