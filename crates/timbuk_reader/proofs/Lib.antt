@@ -65,3 +65,4 @@ pub mod TieSectionsFile
 pub mod TieSectionsTexts
 pub mod FirstFaults
 pub mod ReaderSpecLaws
+pub mod ReaderWhole

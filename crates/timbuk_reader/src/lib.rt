@@ -8,7 +8,6 @@ mod laws;
 mod meaning;
 mod names;
 mod pattern;
-
 mod reader;
 mod rules;
 mod sections;
