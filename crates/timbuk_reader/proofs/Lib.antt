@@ -65,3 +65,4 @@ pub mod TieSectionsSpells
 pub mod TieSectionsFile
 pub mod TieSectionsTexts
 pub mod ReaderSpecLaws
+pub mod ReaderWhole
