@@ -6,3 +6,5 @@ pub mod ReaderTokens
 pub mod StepsNames
 pub mod ReaderFresh
 pub mod StepsLast
+pub mod ReaderMeanings
+pub mod StepsPatterns

@@ -55,11 +55,11 @@ some_if true n = refl
 some_if false n = refl
 
 -- an element that passes has a place
-pub is_some-position : {A : Type 0} (p : A → Bool) (xs : List A) → is_some (position p xs) ≡ list_any p xs
-is_some-position p xs = some_if (nat_lt (position_or_len p xs) (length xs)) _ ∙ found_at p xs
+pub is_some_position : {A : Type 0} (p : A → Bool) (xs : List A) → is_some (position p xs) ≡ list_any p xs
+is_some_position p xs = some_if (nat_lt (position_or_len p xs) (length xs)) _ ∙ found_at p xs
 
 not_found : (p : Text → Bool) (names : List Text) → position p names ≡ None → list_any p names ≡ false
-not_found p names e = sym (is_some-position p names) ∙ ap is_some e
+not_found p names e = sym (is_some_position p names) ∙ ap is_some e
 
 any_text : (key : String Global) (ks : List (String Global)) → list_any (string_eq key) ks ≡ list_any (bytes_eq (string_bytes key)) (texts_of ks)
 any_text key [] = refl

@@ -16,7 +16,7 @@ use Rattle.ranked_terms.specs.Names.{names_of, number_of}
 use Rattle.timbuk_reader.specs.Declarations.{Text, Declared, meaning, value_of, current}
 use Rattle.timbuk_reader.specs.Rows.{or, when, passed, misnamed, over, is_double, is_in, long_name}
 use Rattle.timbuk_reader.proofs.StepsTokens.{use_row}
-use Rattle.timbuk_reader.proofs.ReaderNames.{is_some-position}
+use Rattle.timbuk_reader.proofs.ReaderNames.{is_some_position}
 
 -- the places in which names are declared
 abbrev pub Declares : Place → Type 0
@@ -63,7 +63,7 @@ below most count l h = let e : nat_le most count ≡ false = grind (arith, nat_t
 
 -- the test for a name, and its place
 pub is_in-position : (names : List Text) (text : Text) → is_in names text ≡ is_some (position (bytes_eq text) names)
-is_in-position names text = sym (is_some-position (bytes_eq text) names)
+is_in-position names text = sym (is_some_position (bytes_eq text) names)
 
 -- the same of two lists
 pub is_in-append : (xs ys : List Text) (text : Text) → is_in (xs ++ ys) text ≡ (is_in xs text || is_in ys text)

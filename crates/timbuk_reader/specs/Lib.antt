@@ -11,3 +11,4 @@ pub mod View
 pub mod Reads
 pub mod Kept
 pub mod Patterns
+pub mod Meanings

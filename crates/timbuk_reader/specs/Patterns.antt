@@ -1,18 +1,26 @@
 -- Reading a pattern, at any depth.
-use Rattle.std.specs.Prelude.{◌≡◌, ◌≢◌, ◌<◌, ◌≤◌, ℕ, true, false, List, [], ◌∷◌, ◌++◌, length, Result, Ok, Err}
+use Rattle.std.specs.Prelude.{◌≡◌, ◌≢◌, ◌<◌, ◌≤◌, ℕ, zero, Bool, true, false, not, ◌&&◌, ◌==◌, if◌then◌else◌, nat_lt, nat_le, List, [], ◌∷◌, ◌++◌, map, length, Option, Some, None, option_map, Result, Ok, Err, IsTrue}
+use Rattle.std.specs.List.{list_all}
+use Rattle.ranked_terms.specs.Terms.{joined}
+use Rattle.ta_core.specs.SpecRules.{shape_is_over, shape_is_below, shape_occurrences}
+use Rattle.timbuk_lex.specs.declared.lexeme.Lexeme.{Lexeme}
 use Rattle.ranked_terms.specs.declared.term.Shape.{Shape}
 use Rattle.ranked_terms.specs.declared.term.Shape.TheVariants as shape
 use Rattle.timbuk_grammar.specs.declared.terminal.Place.{Place}
 use Rattle.timbuk_grammar.specs.declared.terminal.Place.TheVariants as place
 use Rattle.timbuk_grammar.specs.declared.terminal.Terminal.TheVariants as terminal
 use Rattle.timbuk_grammar.specs.Grammar.{Part, one, many, ◌then◌, pattern, pattern_arguments}
+use Rattle.timbuk_reader.specs.declared.fault.SpecKind.{SpecKind}
 use Rattle.timbuk_reader.specs.declared.fault.SpecKind.TheVariants as kind
+use Rattle.timbuk_reader.specs.declared.fault.LimitName.{LimitName}
+use Rattle.timbuk_reader.specs.declared.fault.LimitName.TheVariants as limit
 use Rattle.timbuk_reader.specs.declared.fault.SpecError.{SpecError}
 use Rattle.timbuk_reader.specs.declared.fault.SpecError.TheVariants as error
 use Rattle.timbuk_reader.specs.declared.state.Reader.{Reader}
-use Rattle.timbuk_reader.specs.Declarations.{Declared, Application, Last, any, function, has, with_variable, placed}
+use Rattle.timbuk_reader.specs.Declarations.{Declared, Application, Last, any, function, Meaning, unknown, a_variable, a_symbol, has, with_variable, placed}
 use Rattle.timbuk_reader.specs.Reading.{Outcome, outcome}
-use Rattle.timbuk_reader.specs.View.{Open, closed, declared, end_of, settled, from, as_error, refusal, sees}
+use Rattle.timbuk_reader.specs.Rows.{or, when}
+use Rattle.timbuk_reader.specs.View.{Open, closed, declared, state_of, end_of, settled, from, as_error, refusal, sees}
 use Rattle.timbuk_reader.specs.Reads.{Missed}
 
 -- the places of patterns
@@ -127,3 +135,79 @@ MayStand _ bound v = Unit {0}
 abbrev pub Binds : Place → List ℕ → List ℕ → List ℕ → Type 0
 Binds p old [] new = new ≡ old
 Binds p old (v ∷ vs) new = MayStand p old v × Binds p (with_variable old v) vs new
+
+-- ---- the rows of a name in a pattern
+
+-- the limit of rules or of equations, at the first name of a left side
+abbrev pub side_limit : Place → ℕ → ℕ → ℕ → Option LimitName
+side_limit place.LeftSide depth rules equations = when (depth == 0 && nat_le 4096 rules) limit.Rules
+side_limit place.EquationLeft depth rules equations = when (depth == 0 && nat_le 1024 equations) limit.Equations
+side_limit _ depth rules equations = None
+
+-- the limit of the nesting, or of the variables, and then that one
+abbrev pub pattern_limit : Meaning → ℕ → List ℕ → Option LimitName → Option LimitName
+pattern_limit (a_symbol f arity) depth bound side = if nat_lt 0 arity && nat_le 100 depth then Some limit.Nesting else side
+pattern_limit (a_variable v) depth bound side = if not (has bound v) && nat_le 16 (length bound) then Some limit.Variables else side
+pattern_limit _ depth bound side = side
+
+-- a name that may not stand there
+abbrev pub misuse : Place → Meaning → ℕ → List ℕ → Option SpecKind
+misuse p unknown depth bound = Some kind.UnknownName
+misuse place.LeftSide (a_variable v) depth bound = if depth == 0 then Some kind.VariableLeft else when (has bound v) kind.NotLeftLinear
+misuse place.RightSide (a_variable v) depth bound = when (not (has bound v)) kind.FreeVariable
+misuse p m depth bound = None
+
+-- the first of them, below so many open applications
+abbrev pub pattern_fault : Place → Meaning → ℕ → Reader → Option SpecKind
+pattern_fault p m depth r = or (option_map kind.Limit (pattern_limit m depth r.bound (side_limit p depth (length r.rules) (length r.equations)))) (misuse p m depth r.bound)
+
+-- ---- what is read
+
+-- only the bound variables and the tokens are others
+pub record SameBut (old new : Reader) : Type 0 where
+  pub state : state_of new ≡ record (state_of old) { bound = new.bound }
+  pub end : end_of new ≡ end_of old
+
+-- the states that may stand in a pattern are those below this number
+abbrev pub state_count : Place → Reader → ℕ
+state_count place.EntryWhole r = length r.initial.states
+state_count _ r = 0
+
+-- the shape is over the signature, its states are few, and its variables may stand there
+pub record Fits (p : Place) (old : Reader) (s : Shape) (new : Reader) : Type 0 where
+  pub over : IsTrue (shape_is_over old.signature s)
+  pub below : IsTrue (shape_is_below (state_count p old) s)
+  pub binds : Binds p old.bound (shape_occurrences s) new.bound
+  pub same : SameBut old new
+
+-- the same of shapes
+pub record AllFit (p : Place) (old : Reader) (args : List Shape) (new : Reader) : Type 0 where
+  pub over : IsTrue (list_all (shape_is_over old.signature) args)
+  pub below : IsTrue (list_all (shape_is_below (state_count p old)) args)
+  pub binds : Binds p old.bound (joined (map shape_occurrences args)) new.bound
+  pub same : SameBut old new
+
+-- a left side is no variable
+abbrev pub IsNoVariable : Place → ℕ → Shape → Type 0
+IsNoVariable place.LeftSide zero (shape.Var v) = ⊥
+IsNoVariable p depth s = Unit {0}
+
+-- ---- a name without arguments
+
+-- the next token was taken
+pub record Advanced (old new : Reader) : Type 0 where
+  pub token : Lexeme
+  pub tokens : old.tokens.now ≡ token ∷ new.tokens.now
+  pub state : state_of new ≡ state_of old
+  pub end : end_of new ≡ end_of old
+
+-- a `(` follows, and that is told
+pub record LeadsToParen (k : SpecKind) (old : Reader) (e : SpecError) (new : Reader) : Type 0 where
+  pub advanced : Advanced old new
+  pub seen : sees terminal.OpenParen new.tokens.now ≡ true
+  pub told : e ≡ error.Fault (refusal k new)
+
+-- a name is taken, behind which no `(` may follow
+abbrev pub EndsName : {X : Type 0} → SpecKind → Reader → Result X SpecError → Reader → Type 0
+EndsName k old (Ok u) new = Advanced old new × (sees terminal.OpenParen new.tokens.now ≡ false)
+EndsName k old (Err e) new = LeadsToParen k old e new

@@ -5,7 +5,9 @@ mod automaton;
 mod cursor;
 mod fault;
 mod laws;
+mod meaning;
 mod names;
+mod pattern;
 mod state;
 mod symbols;
 

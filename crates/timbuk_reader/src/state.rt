@@ -83,6 +83,8 @@ pub(crate) struct Reader<'s, 'a> {
     ghost none_early: { automata ≡ 0 → approximations ≡ 0 },
     ghost no_extra: { approximations ≡ 0 → extra ≡ 0 },
     ghost no_entries: { approximations ≡ 0 → entries ≡ [] },
+    // A declaration has at most 16 variables.
+    ghost few_bound: { length bound ≤ 16 },
     // The counts are within their limits.
     ghost few_automata: { automata ≤ 2 },
     ghost one_system: { systems ≤ 1 },
