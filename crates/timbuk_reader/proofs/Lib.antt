@@ -8,3 +8,8 @@ pub mod ReaderFresh
 pub mod StepsLast
 pub mod ReaderMeanings
 pub mod StepsPatterns
+pub mod ReaderPatterns
+pub mod ReaderArguments
+pub mod ReaderFits
+pub mod StepsApproximation
+pub mod ReaderApproximation

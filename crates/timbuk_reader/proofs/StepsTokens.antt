@@ -1,6 +1,6 @@
 -- The first row that fits one token.
 use Rattle.std.proofs.Common.{◌≡◌, ◌≢◌, ◌⊎◌, inl, inr, ℕ, ◌+◌, ◌<◌, ◌≤◌, length, arith, Bool, true, false, not, ◌&&◌, ◌||◌, ◌==◌, cond, List, [], ◌∷◌, ◌++◌, Option, Some, None, Ok, Err, Result, refl, ap, sym, ◌∙◌, subst}
-use Rattle.std.specs.Prelude.{codes, option_map, nat_lt}
+use Rattle.std.specs.Prelude.{codes, option_map, nat_lt, is_none}
 use Rattle.std.specs.List.{list_all, list_any}
 use Rattle.std.specs.Char.{is_ascii_digit}
 use Rattle.std.specs.Str.{bytes_eq}
@@ -220,6 +220,21 @@ pub step_missed : (ps : List Part) (t : Terminal) (qs : List Part) (end : End) (
 step_missed ps t qs end d [] h e calm = step_end ps end d h.end
 step_missed ps t qs end d (x ∷ xs) h e calm = step_unexpected ps end d x xs (choice_unseen ps t qs x h e) (calm x)
 
+leaf_told : (a : Bool) (t : Option Terminal) (u o : Bool) (m : Option SpecKind) → u ≡ true → or (when a kind.UnknownSection) (or (when false kind.WrongArity) (or (when (is_none t || u || o) kind.Expected) m)) ≡ Some (told a kind.Expected)
+leaf_told true t u o m e = refl
+leaf_told false None u o m e = refl
+leaf_told false (Some t) u o m e = rw e refl
+
+row_leaf : (t : Option Terminal) (d : Declared) (x : Lexeme) → wrong_arity d x ≡ false → unexpected_after d.last x ≡ true → row t d x ≡ Some (told (is_closed_word x) kind.Expected)
+unfolding row expected
+row_leaf t d x h e = rw h (leaf_told (is_closed_word x) t (unexpected_after d.last x) (matches terminal.Approximation x && d.automata == 0) (at_terminal t x d) e)
+
+-- a `(` behind a name that has no arguments and is no symbol
+pub step_leaf : (ps : List Part) (end : End) (d : Declared) (x : Lexeme) (rest : List Lexeme) → wrong_arity d x ≡ false → unexpected_after d.last x ≡ true → outcome end ps d (x ∷ rest) ≡ Err (refusal_at kind.Expected end (x ∷ rest))
+step_leaf ps end d x rest h e =
+    let c = choice_of ps x in
+    ap (λ k. unless k x (outcome end (behind c) (added c x d) rest)) (row_leaf (terminal_of c) d x h e)
+
 -- ---- marks and words where nothing else is open
 
 pub calm_arity : (d : Declared) (x : Lexeme) → d.applications ≡ [] → d.last ≡ any → wrong_arity d x ≡ false
@@ -237,7 +252,7 @@ mark_other : (t : Terminal) → IsMark t → IsOther t
 mark_other terminal.Approximation m = absurd m
 mark_other _ m = tt
 
-mark_row : (t : Terminal) (text : Bytes) (d : Declared) → IsMark t → use_row t text d ≡ None
+pub mark_row : (t : Terminal) (text : Bytes) (d : Declared) → IsMark t → use_row t text d ≡ None
 unfolding passed misnamed
 mark_row terminal.Trs text d m = absurd m
 mark_row terminal.Automaton text d m = absurd m
@@ -248,7 +263,7 @@ mark_row (terminal.Named place) text d m = absurd m
 mark_row terminal.Number text d m = absurd m
 mark_row _ text d m = refl
 
-mark_adds : (t : Terminal) (text : Bytes) (d : Declared) → IsMark t → adds t text d ≡ record d { last = any }
+pub mark_adds : (t : Terminal) (text : Bytes) (d : Declared) → IsMark t → adds t text d ≡ record d { last = any }
 unfolding adds
 mark_adds terminal.Trs text d m = absurd m
 mark_adds terminal.Automaton text d m = absurd m
@@ -327,7 +342,7 @@ word_stops t o r text k e w h s n told = record {
       ∙ ap (λ xs. Err (refusal_at k (end_of r) xs)) (sym s.tokens)) ∙ ap Err (sym told);
 }
 
-long_row : (t : Terminal) (text : Bytes) (d : Declared) → IsWordly t → 255 < length text → use_row t text d ≡ Some (kind.Limit limit.NameBytes)
+pub long_row : (t : Terminal) (text : Bytes) (d : Declared) → IsWordly t → 255 < length text → use_row t text d ≡ Some (kind.Limit limit.NameBytes)
 unfolding passed
 long_row (terminal.Named place) text d w h = let e : nat_lt 255 (length text) ≡ true = grind (arith, nat_tests) in rw e refl
 long_row terminal.Number text d w h = let e : nat_lt 255 (length text) ≡ true = grind (arith, nat_tests) in rw e refl

@@ -12,3 +12,4 @@ pub mod Reads
 pub mod Kept
 pub mod Patterns
 pub mod Meanings
+pub mod ApproximationReads

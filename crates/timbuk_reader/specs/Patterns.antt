@@ -17,11 +17,11 @@ use Rattle.timbuk_reader.specs.declared.fault.LimitName.TheVariants as limit
 use Rattle.timbuk_reader.specs.declared.fault.SpecError.{SpecError}
 use Rattle.timbuk_reader.specs.declared.fault.SpecError.TheVariants as error
 use Rattle.timbuk_reader.specs.declared.state.Reader.{Reader}
-use Rattle.timbuk_reader.specs.Declarations.{Declared, Application, Last, any, function, Meaning, unknown, a_variable, a_symbol, has, with_variable, placed}
+use Rattle.timbuk_reader.specs.Declarations.{Text, Declared, Application, Last, any, function, Meaning, meaning, unknown, a_variable, a_symbol, has, with_variable, placed}
 use Rattle.timbuk_reader.specs.Reading.{Outcome, outcome}
 use Rattle.timbuk_reader.specs.Rows.{or, when}
 use Rattle.timbuk_reader.specs.View.{Open, closed, declared, state_of, end_of, settled, from, as_error, refusal, sees}
-use Rattle.timbuk_reader.specs.Reads.{Missed}
+use Rattle.timbuk_reader.specs.Reads.{Missed, Stands}
 
 -- the places of patterns
 abbrev pub IsPatternPlace : Place → Type 0
@@ -211,3 +211,10 @@ pub record LeadsToParen (k : SpecKind) (old : Reader) (e : SpecError) (new : Rea
 abbrev pub EndsName : {X : Type 0} → SpecKind → Reader → Result X SpecError → Reader → Type 0
 EndsName k old (Ok u) new = Advanced old new × (sees terminal.OpenParen new.tokens.now ≡ false)
 EndsName k old (Err e) new = LeadsToParen k old e new
+
+-- a name stands next that may stand there
+pub record HasHead (p : Place) (depth : ℕ) (r : Reader) (m : Meaning) : Type 0 where
+  pub text : Text
+  pub stands : Stands (terminal.Named p) r text
+  pub means : meaning (state_of r) p text ≡ m
+  pub fits : pattern_fault p m depth r ≡ None

@@ -1,6 +1,7 @@
 //! The reader of input texts: what a text spells, or its first fault.
 #![tactic(auto)]
 
+mod approximation;
 mod automaton;
 mod cursor;
 mod fault;
@@ -9,6 +10,7 @@ mod meaning;
 mod names;
 mod pattern;
 mod state;
+mod stubs;
 mod symbols;
 
 pub use fault::{LimitName, SpecError, SpecFault, SpecKind};

@@ -1,18 +1,19 @@
 //! Reads patterns.
-ghost use Rattle.std.specs.Prelude.{◌≡◌, ◌<◌, ◌≤◌, ◌==◌, false, IfOk, OnOk, MatchResult, length};
+ghost use Rattle.std.specs.Prelude.{◌≡◌, ◌<◌, ◌≤◌, ◌==◌, false, IfOk, IfErr, OnOk, MatchResult, length};
 ghost use Rattle.std.specs.List.{list_any};
 ghost use Rattle.timbuk_grammar.specs.declared.terminal.Terminal.TheVariants as terminal;
-ghost use Rattle.timbuk_reader.specs.Declarations.{has, with_variable};
+ghost use Rattle.timbuk_reader.specs.Declarations.{has, with_variable, a_variable, a_state, a_symbol};
 ghost use Rattle.timbuk_reader.specs.Meanings.{meant_by};
 ghost use Rattle.timbuk_reader.specs.Reads.{Took};
 ghost use Rattle.timbuk_reader.specs.View.{Shorter, sees};
-ghost use Rattle.timbuk_reader.specs.Patterns.{IsPatternPlace, BuildsAt, AppliesAll, Fits, AllFit, IsNoVariable, LacksArguments, LacksArgument, LacksEnd, EndsName, SameBut};
+ghost use Rattle.timbuk_reader.specs.Patterns.{IsPatternPlace, HasHead, Breaks, BuildsAt, AppliesAll, Fits, AllFit, IsNoVariable, LacksArguments, LacksArgument, LacksEnd, EndsName, SameBut};
 ghost use Rattle.timbuk_reader.specs.Patterns as rows;
 
 use crate::fault::{LimitName, SpecError, SpecKind};
 use crate::meaning::Meaning;
 use crate::state::Reader;
 use ranked_terms::{Seq, Shape};
+use std::alloc::AllocError;
 use timbuk_grammar::{Place, Terminal};
 
 /// The largest number of rules.
@@ -25,11 +26,11 @@ const MAX_EQUATIONS: usize = 1024;
 const MAX_NESTING: u32 = 100;
 
 /// The largest number of variables of a rule, of an equation or of an entry.
-const MAX_BOUND: usize = 16;
+pub(crate) const MAX_BOUND: usize = 16;
 
 impl<'s, 'a> Reader<'s, 'a> {
     /// A pattern below so many open applications. A name is refused that stands for nothing in the place or passes a limit,
-    /// and a variable that may not stand there.
+    /// and a variable that may not stand there; behind each name a wrong number of arguments is.
     #[cycle(pattern)]
     pub(crate) fn pattern(&mut self, place: Place, depth: u32) -> Result<Shape, SpecError>
         requires place { IsPatternPlace place }
@@ -39,32 +40,15 @@ impl<'s, 'a> Reader<'s, 'a> {
         ensures fits { IfOk result (λ shape. Fits place self.old shape self.new) }
         ensures left { IfOk result (IsNoVariable place depth) }
     {
-        if depth > 0 && self.sees(Terminal::CloseParen) {
-            return Err(self.refusal(SpecKind::WrongArity));
-        }
-        let name = self.word(Terminal::Named(place))?;
-        let meaning = self.meaning(place, name);
-        if let Some(kind) = self.pattern_fault(place, depth, meaning) {
-            return Err(self.refusal(kind));
-        }
-        match meaning {
+        match self.pattern_head(place, depth)? {
             Meaning::Unknown => unreachable!(),
-            Meaning::Variable(variable) => {
-                self.bind(variable)?;
-                self.leaf(SpecKind::Expected)?;
-                Ok(Shape::Var(variable))
-            }
-            Meaning::State(state) => {
-                self.leaf(SpecKind::Expected)?;
-                Ok(Shape::State(state))
-            }
-            Meaning::Symbol(sym, 0) => {
-                self.leaf(SpecKind::WrongArity)?;
-                Ok(Shape::App(sym, Seq::new(self.alloc)))
-            }
+            Meaning::Variable(variable) => self.pattern_variable(place, depth, variable),
+            Meaning::State(state) => self.pattern_state(place, depth, state),
+            Meaning::Symbol(sym, 0) => self.pattern_constant(place, depth, sym),
             Meaning::Symbol(sym, arity) => {
                 self.advance();
-                Ok(Shape::App(sym, self.arguments(place, sym, arity, depth)?))
+                let args = self.arguments(place, sym, arity, depth)?;
+                Ok(Shape::App(sym, args))
             }
         }
     }
@@ -92,8 +76,66 @@ impl<'s, 'a> Reader<'s, 'a> {
         Ok(args)
     }
 
+    /// What the name stands for that comes next in a pattern. It is refused where it may not stand there, and so is
+    /// anything that is no name; in place of a further argument the end of the arguments is a wrong number.
+    fn pattern_head(&self, place: Place, depth: u32) -> Result<Meaning, SpecError>
+        requires place { IsPatternPlace place }
+        ensures ok { IfOk result (λ meaning. HasHead place depth self.now (meant_by meaning)) }
+        ensures err { IfErr result (Breaks place depth self.now) }
+    {
+        if depth > 0 && self.sees(Terminal::CloseParen) {
+            return Err(self.refusal(SpecKind::WrongArity));
+        }
+        let name = self.word(Terminal::Named(place))?;
+        let meaning = self.meaning(place, name);
+        match self.pattern_fault(place, depth, meaning) {
+            Some(kind) => Err(self.refusal(kind)),
+            None => Ok(meaning),
+        }
+    }
+
+    /// A variable, whose name comes next. A `(` behind it is refused.
+    fn pattern_variable(&mut self, place: Place, depth: u32, variable: u32) -> Result<Shape, SpecError>
+        requires place { IsPatternPlace place }
+        requires head { HasHead place depth self.old (a_variable variable) }
+        ensures shorter { OnOk result (Shorter self.old self.new) }
+        ensures reads { BuildsAt place depth self.old result self.new }
+        ensures fits { IfOk result (λ shape. Fits place self.old shape self.new) }
+        ensures left { IfOk result (IsNoVariable place depth) }
+    {
+        self.bind(variable)?;
+        self.leaf(SpecKind::Expected)?;
+        Ok(Shape::Var(variable))
+    }
+
+    /// A state, whose name comes next. A `(` behind it is refused.
+    fn pattern_state(&mut self, place: Place, depth: u32, state: u32) -> Result<Shape, SpecError>
+        requires place { IsPatternPlace place }
+        requires head { HasHead place depth self.old (a_state state) }
+        ensures shorter { OnOk result (Shorter self.old self.new) }
+        ensures reads { BuildsAt place depth self.old result self.new }
+        ensures fits { IfOk result (λ shape. Fits place self.old shape self.new) }
+        ensures left { IfOk result (IsNoVariable place depth) }
+    {
+        self.leaf(SpecKind::Expected)?;
+        Ok(Shape::State(state))
+    }
+
+    /// A symbol of arity 0, whose name comes next. Arguments behind it are refused.
+    fn pattern_constant(&mut self, place: Place, depth: u32, sym: u32) -> Result<Shape, SpecError>
+        requires place { IsPatternPlace place }
+        requires head { HasHead place depth self.old (a_symbol sym 0) }
+        ensures shorter { OnOk result (Shorter self.old self.new) }
+        ensures reads { BuildsAt place depth self.old result self.new }
+        ensures fits { IfOk result (λ shape. Fits place self.old shape self.new) }
+        ensures left { IfOk result (IsNoVariable place depth) }
+    {
+        self.leaf(SpecKind::WrongArity)?;
+        Ok(Shape::App(sym, Seq::new(self.alloc)))
+    }
+
     /// Takes the mark in front of the arguments of a symbol that has some. Anything else is refused as a wrong number.
-    fn first_argument(&mut self) -> Result<(), SpecError>
+    pub(crate) fn first_argument(&mut self) -> Result<(), SpecError>
         ensures { MatchResult result (λ _. Took terminal.OpenParen self.old self.new) (LacksArguments self.old) }
     {
         if !self.sees(Terminal::OpenParen) {
@@ -103,7 +145,7 @@ impl<'s, 'a> Reader<'s, 'a> {
     }
 
     /// Takes the mark in front of a further argument. The end of the arguments is refused as a wrong number.
-    fn next_argument(&mut self) -> Result<(), SpecError>
+    pub(crate) fn next_argument(&mut self) -> Result<(), SpecError>
         ensures { MatchResult result (λ _. Took terminal.Comma self.old self.new) (LacksArgument self.old) }
     {
         if self.sees(Terminal::CloseParen) {
@@ -113,7 +155,7 @@ impl<'s, 'a> Reader<'s, 'a> {
     }
 
     /// Takes the mark behind the last argument. A further argument is refused as a wrong number.
-    fn last_argument(&mut self) -> Result<(), SpecError>
+    pub(crate) fn last_argument(&mut self) -> Result<(), SpecError>
         ensures { MatchResult result (λ _. Took terminal.CloseParen self.old self.new) (LacksEnd self.old) }
     {
         if self.sees(Terminal::Comma) {
@@ -123,7 +165,7 @@ impl<'s, 'a> Reader<'s, 'a> {
     }
 
     /// Takes a name that has no arguments. A `(` behind it is refused in this way.
-    fn leaf(&mut self, kind: SpecKind) -> Result<(), SpecError>
+    pub(crate) fn leaf(&mut self, kind: SpecKind) -> Result<(), SpecError>
         requires { 0 < length self.old.tokens.now }
         ensures { EndsName kind self.old result self.new }
     {
@@ -135,14 +177,14 @@ impl<'s, 'a> Reader<'s, 'a> {
     }
 
     /// Whether the variable stands in the declaration that is being read.
-    fn is_bound(&self, variable: u32) -> bool
+    pub(crate) fn is_bound(&self, variable: u32) -> bool
         ensures { result ≡ has self.now.bound variable }
     {
         contains(self.bound.as_slice(), variable)
     }
 
     /// Notes that the variable stands in the declaration that is being read. The only error is want of memory.
-    fn bind(&mut self, variable: u32) -> Result<(), SpecError>
+    pub(crate) fn bind(&mut self, variable: u32) -> Result<(), AllocError>
         requires { has self.old.bound variable ≡ false → length self.old.bound < 16 }
         ensures bound { OnOk result (self.new.bound ≡ with_variable self.old.bound variable) }
         ensures same { OnOk result (SameBut self.old self.new) }
@@ -209,7 +251,7 @@ impl<'s, 'a> Reader<'s, 'a> {
 }
 
 /// Whether the variable is one of these.
-fn contains(variables: &[u32], variable: u32) -> bool
+pub(crate) fn contains(variables: &[u32], variable: u32) -> bool
     ensures { result ≡ list_any (λ w. variable == w) variables.now }
 {
     variables.iter().any(|bound| variable == *bound)

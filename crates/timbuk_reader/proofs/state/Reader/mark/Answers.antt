@@ -1,4 +1,3 @@
-use Rattle.timbuk_reader.proofs.StepsPatterns as tried_StepsPatterns
 use Rattle.timbuk_reader.specs.View.{closed}
 use Rattle.timbuk_reader.proofs.StepsTokens.{mark_reads, closed_calm}
 use Rattle.timbuk_reader.proofs.state.Reader.mark.Goals as goal
