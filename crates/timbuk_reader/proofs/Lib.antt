@@ -13,3 +13,4 @@ pub mod ReaderArguments
 pub mod ReaderFits
 pub mod StepsApproximation
 pub mod ReaderApproximation
+pub mod StepsApproximationNames

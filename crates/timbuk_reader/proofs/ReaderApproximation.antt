@@ -27,3 +27,11 @@ either false own = refl
 
 pub own_there : (bound own : List ℕ) (v : ℕ) → list_any (λ w. v == w) own ≡ true → with_own bound (leaf.Variable v) own ≡ own
 own_there bound own v e = rw (has_any own v ∙ e) (either (has bound v) own)
+
+or_assoc : (a b c : Bool) → ((a || b) || c) ≡ (a || (b || c))
+or_assoc true b c = refl
+or_assoc false b c = refl
+
+-- the test for room by the test whether the variable is there
+pub room_is : (bound own : List ℕ) (v : ℕ) (seen : Bool) → seen ≡ (has bound v || has own v) → (seen || nat_lt (length bound + length own) 16) ≡ has_room bound own v
+room_is bound own v seen e = ap (λ b. b || nat_lt (length bound + length own) 16) e ∙ or_assoc (has bound v) (has own v) (nat_lt (length bound + length own) 16)
