@@ -20,11 +20,11 @@ use Rattle.timbuk_reader.specs.declared.approximation.Form.{Form}
 use Rattle.timbuk_reader.specs.declared.approximation.Leaf.{Leaf}
 use Rattle.timbuk_reader.specs.declared.approximation.Leaf.TheVariants as leaf
 use Rattle.timbuk_reader.specs.declared.approximation.StartedEntry.{StartedEntry}
-use Rattle.timbuk_reader.specs.Declarations.{Application, Declared, any, constant, function, Meaning, unknown, a_variable, a_state, has, with_variable, named}
+use Rattle.timbuk_reader.specs.Declarations.{Text, Application, Declared, any, constant, function, Meaning, a_variable, a_state, meaning, has, with_variable, named}
 use Rattle.timbuk_reader.specs.Rows.{wrong_count}
 use Rattle.timbuk_reader.specs.Reading.{outcome}
 use Rattle.timbuk_reader.specs.View.{Open, declared, state_of, end_of, settled, from, refusal, sees}
-use Rattle.timbuk_reader.specs.Reads.{Stops}
+use Rattle.timbuk_reader.specs.Reads.{Stops, Stands}
 use Rattle.timbuk_reader.specs.Patterns.{within, application}
 
 -- ---- the section
@@ -125,6 +125,13 @@ has_room bound own v = has bound v || (has own v || nat_lt (length bound + lengt
 abbrev pub IsLeaf : List ℕ → Reader → Leaf → Type 0
 IsLeaf own r (leaf.Variable v) = IsTrue (has_room r.bound own v)
 IsLeaf own r (leaf.State q) = q < length r.initial.states
+
+-- the name of such a variable or state comes next
+pub record HasLeaf (p : Place) (own : List ℕ) (r : Reader) (l : Leaf) : Type 0 where
+  pub text : Text
+  pub stands : Stands (terminal.Named p) r text
+  pub means : meaning (state_of r) p text ≡ leaf_meaning l
+  pub fits : IsLeaf own r l
 
 -- an entry's own variables with those of a further argument, where these are bound
 abbrev pub with_own : List ℕ → Leaf → List ℕ → List ℕ

@@ -7,7 +7,7 @@ ghost use Rattle.timbuk_reader.specs.Declarations.{a_state};
 ghost use Rattle.timbuk_reader.specs.View.{Shorter, closed, state_of, sees};
 ghost use Rattle.timbuk_reader.specs.Reads.{Leads, Stops, Reads};
 ghost use Rattle.timbuk_reader.specs.Patterns.{within, SameBut};
-ghost use Rattle.timbuk_reader.specs.ApproximationReads.{IsNewApproximation, NoLonger, SameTokens, OnlyEntries, IsLeafPlace, ReadsName, StopsName, ReadsLeaf, StopsLeaf, IsLeaf, IsPart, IsForm, IsStarted, IsNewEntry, AddsArgument, SameHead, HasArguments};
+ghost use Rattle.timbuk_reader.specs.ApproximationReads.{IsNewApproximation, NoLonger, SameTokens, OnlyEntries, IsLeafPlace, ReadsName, StopsName, HasLeaf, ReadsLeaf, StopsLeaf, IsLeaf, IsPart, IsForm, IsStarted, IsNewEntry, AddsArgument, SameHead, HasArguments};
 ghost use Rattle.timbuk_reader.specs.ApproximationReads as entries;
 
 use crate::fault::{LimitName, SpecError, SpecKind};
@@ -360,17 +360,28 @@ impl<'s, 'a> Reader<'s, 'a> {
         ensures leaf { IfOk result (IsLeaf own.now self.new) }
         ensures same { OnOk result (state_of self.new ≡ state_of self.old) }
     {
-        let name = self.word(Terminal::Named(place))?;
-        let leaf = match self.meaning(place, name) {
-            Meaning::Variable(variable) if !self.has_room(variable, own) => {
-                return Err(self.refusal(SpecKind::Limit(LimitName::Variables)));
-            }
-            Meaning::Variable(variable) => Leaf::Variable(variable),
-            Meaning::State(state) => Leaf::State(state),
-            _ => return Err(self.refusal(SpecKind::UnknownName)),
-        };
+        let leaf = self.next_leaf(place, own)?;
         self.leaf(SpecKind::Expected)?;
         Ok(leaf)
+    }
+
+    /// The variable or the state whose name comes next, where the entry has these variables of its own. Another name is refused
+    /// as unknown, and a 17th variable as beyond the limit.
+    fn next_leaf(&self, place: Place, own: &[u32]) -> Result<Leaf, SpecError>
+        requires place { IsLeafPlace place }
+        requires few { length own.now ≤ 16 }
+        ensures ok { IfOk result (HasLeaf place own.now self.now) }
+        ensures err { IfErr result (StopsLeaf place own.now self.now) }
+    {
+        let name = self.word(Terminal::Named(place))?;
+        match self.meaning(place, name) {
+            Meaning::Variable(variable) if !self.has_room(variable, own) => {
+                Err(self.refusal(SpecKind::Limit(LimitName::Variables)))
+            }
+            Meaning::Variable(variable) => Ok(Leaf::Variable(variable)),
+            Meaning::State(state) => Ok(Leaf::State(state)),
+            _ => Err(self.refusal(SpecKind::UnknownName)),
+        }
     }
 
     /// Whether the variable may stand in an entry that has these variables of its own.
