@@ -11,6 +11,8 @@ pub mod StepsPatterns
 pub mod ReaderPatterns
 pub mod ReaderArguments
 pub mod ReaderFits
+pub mod ReaderSides
+pub mod ReaderRules
 pub mod StepsApproximation
-pub mod ReaderApproximation
 pub mod StepsApproximationNames
+pub mod ReaderApproximation

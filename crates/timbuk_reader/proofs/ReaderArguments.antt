@@ -139,7 +139,7 @@ module _ (p : Place) (f n : ℕ) (args : List Shape) (applications : List Applic
 -- ---- arguments so far
 
 took_run : (t : Terminal) (r m : Reader) (o : Open) (ps : List Part) → (k : Took t r m) → outcome (end_of r) ps (declared o r) r.tokens.now ≡ outcome (end_of m) ps (declared o m) (k.token ∷ m.tokens.now)
-took_run t r m o ps k = λ i. outcome (sym k.end i) ps (sym (declared_same o r m k.state) i) (k.tokens i)
+took_run t r m o ps k = λ i. outcome (sym k.end i) ps (sym (declared_same o r m k.state k.bound) i) (k.tokens i)
 
 module _ (p : Place) (f n d : ℕ) where
   abbrev inner : List Application → List Shape → List Shape → Open

@@ -60,10 +60,10 @@ occurs_app f args = ap shape_occurrences (sym (rolls-App f args)) ∙ fold-roll-
 -- ---- readers of which only bound variables and tokens differ
 
 pub same_now : (r u : Reader) → state_of u ≡ state_of r → end_of u ≡ end_of r → SameBut r u
-same_now r u e f = record { state = e ∙ ap (λ b. record (state_of r) { bound = b }) (sym (ap (λ (d : Declared). d.bound) e)); end = f }
+same_now r u e f = record { state = e; end = f }
 
 pub same_then : (r m u : Reader) → SameBut r m → SameBut m u → SameBut r u
-same_then r m u h k = record { state = k.state ∙ ap (λ (d : Declared). record d { bound = u.bound }) h.state; end = k.end ∙ h.end }
+same_then r m u h k = record { state = k.state ∙ h.state; end = k.end ∙ h.end }
 
 pub same_signature : (r u : Reader) → SameBut r u → u.signature ≡ r.signature
 same_signature r u h = ap (λ (d : Declared). d.symbols) h.state
@@ -108,10 +108,9 @@ module _ (p : Place) (r : Reader) where
   pub fits_none : (u : Reader) → u.bound ≡ r.bound → SameBut r u → AllFit p r [] u
   fits_none u still same = record { over = refl; below = refl; binds = still; same = same }
 
-  pub fits_more : (m v u : Reader) (args : List Shape) (s : Shape) → AllFit p r args m → state_of v ≡ state_of m → end_of v ≡ end_of m → Fits p v s u → AllFit p r (args ++ s ∷ []) u
-  fits_more m v u args s h e f k =
+  pub fits_more : (m v u : Reader) (args : List Shape) (s : Shape) → AllFit p r args m → state_of v ≡ state_of m → v.bound ≡ m.bound → end_of v ≡ end_of m → Fits p v s u → AllFit p r (args ++ s ∷ []) u
+  fits_more m v u args s h e bound f k =
       let at_v = same_then r m v h.same (same_now m v e f) in
-      let bound : v.bound ≡ m.bound = ap (λ (d : Declared). d.bound) e in
       record {
         over = all_on (shape_is_over r.signature) args s h.over (subst (λ z. shape_is_over z s ≡ true) (same_signature r v at_v) k.over);
         below = all_on (shape_is_below (state_count p r)) args s h.below (subst (λ z. shape_is_below z s ≡ true) (same_count p r v at_v) k.below);
@@ -123,10 +122,9 @@ module _ (p : Place) (r : Reader) where
   symbol_test : (f n : ℕ) → arity_of r.signature f ≡ Some n → is_symbol r.signature f n ≡ true
   symbol_test f n e = ap (is_arity n) e ∙ grind (arith, nat_tests)
 
-  pub fits_application : (u v : Reader) (f n : ℕ) (args : List Shape) → arity_of r.signature f ≡ Some n → length args ≡ n → state_of u ≡ state_of r → end_of u ≡ end_of r → AllFit p u args v → Fits p r (App f args) v
-  fits_application u v f n args arity count e g h =
+  pub fits_application : (u v : Reader) (f n : ℕ) (args : List Shape) → arity_of r.signature f ≡ Some n → length args ≡ n → state_of u ≡ state_of r → u.bound ≡ r.bound → end_of u ≡ end_of r → AllFit p u args v → Fits p r (App f args) v
+  fits_application u v f n args arity count e bound g h =
       let at_u = same_now r u e g in
-      let bound : u.bound ≡ r.bound = ap (λ (d : Declared). d.bound) e in
       let symbol : is_symbol r.signature f (length args) ≡ true = ap (is_symbol r.signature f) count ∙ symbol_test f n arity in
       let all_over : list_all (shape_is_over r.signature) args ≡ true = subst (λ z. list_all (shape_is_over z) args ≡ true) (same_signature r u at_u) h.over in
       record {

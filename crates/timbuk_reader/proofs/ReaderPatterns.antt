@@ -117,8 +117,9 @@ whole_read : (p : Place) (l : Last) → IsWhole l → (ps : List Part) (end : En
 whole_read p l w ps end d xs e =
     read_after l w end (pattern_arguments p ∷ ps) d xs e ∙ ap settled (maybe_skip (one terminal.OpenParen then argument_list p) terminal.OpenParen (then_head terminal.OpenParen (argument_list p)) end (after any d) ps xs e)
 
-pub same_but : (o : Open) (r u : Reader) → SameBut r u → declared o u ≡ record (declared o r) { bound = u.bound }
-same_but o r u h = ap (inside o) h.state
+-- the same declarations, with other bound variables
+pub same_but : (applications : List Application) (shapes : List Shape) (r u : Reader) → SameBut r u → declared (within applications shapes) u ≡ record (declared (within applications shapes) r) { bound = u.bound }
+same_but applications shapes r u h = ap (inside (within applications shapes) u.bound) h.state
 
 module _ (p : Place) (pattern_place : IsPatternPlace p) (r u : Reader) (depth : ℕ) (text : Text) (stands : Stands (terminal.Named p) r text) (x : Lexeme) (tokens : r.tokens.now ≡ x ∷ u.tokens.now) (same : SameBut r u) where
   module _ (m : Meaning) (is : meaning (state_of r) p text ≡ m) (none : pattern_fault p m depth r ≡ None) where
@@ -130,14 +131,14 @@ module _ (p : Place) (pattern_place : IsPatternPlace p) (r u : Reader) (depth : 
   pub variable_builds : (v : ℕ) → meaning (state_of r) p text ≡ a_variable v → pattern_fault p (a_variable v) depth r ≡ None → u.bound ≡ with_variable r.bound v → sees terminal.OpenParen u.tokens.now ≡ false → Builds p depth r (shape.Var v) u
   variable_builds v is none bound e = record { by = λ ps applications shapes spot.
       let d = declared (within applications shapes) r in
-      let bound_d : binds p v d ≡ declared (within applications shapes) u = binds_is p v d pattern_place ∙ ap (λ b. record d { bound = b }) (sym bound) ∙ sym (same_but (within applications shapes) r u same) in
+      let bound_d : binds p v d ≡ declared (within applications shapes) u = binds_is p v d pattern_place ∙ ap (λ b. record d { bound = b }) (sym bound) ∙ sym (same_but applications shapes r u same) in
       ap settled (read (a_variable v) is none ps applications shapes spot)
       ∙ whole_read p leaf leaf_whole ps (end_of u) (placed p (shape.Var v) (binds p v d)) u.tokens.now e
       ∙ ap (λ z. settled (outcome (end_of u) ps (after any (placed p (shape.Var v) z)) u.tokens.now)) bound_d }
 
   module _ (still : u.bound ≡ r.bound) where
     same_d : (o : Open) → declared o r ≡ declared o u
-    same_d o = sym (same_but o r u same ∙ ap (λ b. record (declared o r) { bound = b }) still)
+    same_d o = sym (λ i. inside o (still i) (same.state i))
 
     -- a state
     pub state_builds : (q : ℕ) → meaning (state_of r) p text ≡ a_state q → pattern_fault p (a_state q) depth r ≡ None → sees terminal.OpenParen u.tokens.now ≡ false → Builds p depth r (shape.State q) u

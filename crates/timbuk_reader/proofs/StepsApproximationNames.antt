@@ -21,13 +21,13 @@ use Rattle.timbuk_reader.specs.declared.state.Reader.{Reader}
 use Rattle.timbuk_reader.specs.Declarations.{Text, Declared, Application, any, leaf, Meaning, unknown, a_variable, a_state, a_symbol, or_else, if_allowed, as_symbol, as_variable, as_state, meaning, states_at, has, named, placed, binds, uses, adds}
 use Rattle.timbuk_reader.specs.Rows.{or, when, row, wrong_arity, wrong_count, passed, misnamed, too_deep, one_too_many, is_unknown}
 use Rattle.timbuk_reader.specs.Reading.{End, outcome}
-use Rattle.timbuk_reader.specs.View.{Open, declared, state_of, end_of, settled, from, as_error, sees, refusal_at, refusal}
+use Rattle.timbuk_reader.specs.View.{Open, bound_in, declared, state_of, end_of, settled, from, as_error, sees, refusal_at, refusal}
 use Rattle.timbuk_reader.specs.Reads.{Stops, IsCalm, Missed, Stands, IsLong, HasNoWord, missed, long}
 use Rattle.timbuk_reader.specs.declared.meaning.Meaning.{Meaning as Told}
 use Rattle.timbuk_reader.specs.declared.meaning.Meaning.TheVariants as told
 use Rattle.timbuk_reader.specs.Meanings.{meant_by}
 use Rattle.timbuk_reader.specs.Patterns.{Advanced, LeadsToParen}
-use Rattle.timbuk_reader.specs.ApproximationReads.{IsReady, IsLeafPlace, IsLeaf, HasLeaf, leaf_meaning, has_room, formed, headed_by, headed, ReadsName, StopsName, ReadsLeaf, StopsLeaf}
+use Rattle.timbuk_reader.specs.ApproximationReads.{IsReady, IsBinding, IsLeafPlace, IsLeaf, HasLeaf, leaf_meaning, has_room, formed, headed_by, headed, ReadsName, StopsName, ReadsLeaf, StopsLeaf}
 use Rattle.timbuk_reader.specs.declared.approximation.Form.{Form}
 use Rattle.timbuk_reader.specs.declared.approximation.StartedEntry.{StartedEntry}
 use Rattle.timbuk_reader.specs.declared.approximation.Leaf.{Leaf}
@@ -121,7 +121,7 @@ module _ (p : Place) (place_is : IsLeafOrTarget p) (text : Text) (r : Reader) (s
       ∙ step_on (name p ∷ ps) (terminal.Named p) ps (end_of r) d stands.token stands.rest (one_front (terminal.Named p) ps) stands.matched fits
       ∙ ap (λ z. outcome (end_of r) ps (adds (terminal.Named p) z d) stands.rest) stands.text_is
       ∙ ap (λ z. outcome (end_of r) ps z stands.rest) (adds_used p text d place_is ∙ ap (λ n. named p n d) (same_meaning p text o r place_is ∙ is))
-      ∙ (λ i. outcome (sym k.end i) ps (named p m (sym (declared_same o r u k.state) i)) (rest i))
+      ∙ (λ i. outcome (sym k.end i) ps (named p m (sym (declared_same o r u k.state k.bound) i)) (rest i))
 
 -- ---- no name
 
@@ -174,15 +174,19 @@ no_leaf p text d (told.Variable x) h n k e = absurd (n x refl)
 no_leaf p text d (told.State x) h n k e = absurd (k x refl)
 no_leaf p text d (told.Symbol f a) h n k e = absurd (no_symbol_there p text d f a h (sym e))
 
+-- the room in a declaration that is open
+room_in : (own : List ℕ) (r : Reader) (o : Open) (v : ℕ) → IsBinding own o → has_room (declared o r).bound o.own v ≡ has_room r.bound own v
+room_in own r o v there = λ i. has_room (bound_in (there.binds i) r.bound) (there.own_is i) v
+
 module _ (p : Place) (place_is : IsLeafPlace p) (own : List ℕ) (text : Text) (r : Reader) (stands : Stands (terminal.Named p) r text) where
   -- an unknown name
   pub unknown_leaf : (e : SpecError) → meaning (state_of r) p text ≡ unknown → e ≡ error.Fault (refusal kind.UnknownName r) → StopsLeaf p own r e
-  unknown_leaf e is told = record { by = λ o ready same. name_fails p (leaf_place p place_is) text r stands unknown kind.UnknownName e o ready.last is refl told }
+  unknown_leaf e is told = record { by = λ o ready there. name_fails p (leaf_place p place_is) text r stands unknown kind.UnknownName e o ready.last is refl told }
 
   -- a 17th variable
   pub crowded_leaf : (v : ℕ) (e : SpecError) → meaning (state_of r) p text ≡ a_variable v → has_room r.bound own v ≡ false → e ≡ error.Fault (refusal (kind.Limit limit.Variables) r) → StopsLeaf p own r e
-  crowded_leaf v e is full told = record { by = λ o ready same.
-      name_fails p (leaf_place p place_is) text r stands (a_variable v) (kind.Limit limit.Variables) e o ready.last is (crowded_row v (declared o r) (ap (λ w. has_room r.bound w v) same ∙ full)) told }
+  crowded_leaf v e is full told = record { by = λ o ready there.
+      name_fails p (leaf_place p place_is) text r stands (a_variable v) (kind.Limit limit.Variables) e o ready.last is (crowded_row v (declared o r) (room_in own r o v there ∙ full)) told }
 
   -- a variable that may stand there
   pub variable_leaf : (v : ℕ) → meaning (state_of r) p text ≡ a_variable v → has_room r.bound own v ≡ true → HasLeaf p own r (leaves.Variable v)
@@ -192,9 +196,9 @@ module _ (p : Place) (place_is : IsLeafPlace p) (own : List ℕ) (text : Text) (
   pub state_leaf : (q : ℕ) → meaning (state_of r) p text ≡ a_state q → HasLeaf p own r (leaves.State q)
   state_leaf q is = record { text = text; stands = stands; means = is; fits = state_there p text (state_of r) q place_is is }
 
-leaf_row : (l : Leaf) (own : List ℕ) (r : Reader) (o : Open) → IsLeaf own r l → o.own ≡ own → rows_by (leaf_meaning l) (declared o r) ≡ None
-leaf_row (leaves.Variable v) own r o fits same = variable_row v (declared o r) (ap (λ w. has_room r.bound w v) same ∙ fits)
-leaf_row (leaves.State q) own r o fits same = refl
+leaf_row : (l : Leaf) (own : List ℕ) (r : Reader) (o : Open) → IsLeaf own r l → IsBinding own o → rows_by (leaf_meaning l) (declared o r) ≡ None
+leaf_row (leaves.Variable v) own r o fits there = variable_row v (declared o r) (room_in own r o v there ∙ fits)
+leaf_row (leaves.State q) own r o fits there = refl
 
 alone_by : (p : Place) (l : Leaf) (ps : List Part) (end : End) (d : Declared) (xs : List Lexeme) → sees terminal.OpenParen xs ≡ false
     → settled (outcome end ps (named p (leaf_meaning l) d) xs) ≡ settled (outcome end ps (record (named p (leaf_meaning l) d) { last = any }) xs)
@@ -206,22 +210,22 @@ applied_by p (leaves.Variable v) ps end d xs e = leaf_applied ps end (named p (a
 applied_by p (leaves.State q) ps end d xs e = leaf_applied ps end (named p (a_state q) d) xs refl e
 
 module _ (p : Place) (place_is : IsLeafPlace p) (own : List ℕ) (r u : Reader) (l : Leaf) (h : HasLeaf p own r l) where
-  passes : (o : Open) (ps : List Part) → o.last ≡ any → o.own ≡ own → Advanced r u → outcome (end_of r) (name p ∷ ps) (declared o r) r.tokens.now ≡ outcome (end_of u) ps (named p (leaf_meaning l) (declared o u)) u.tokens.now
-  passes o ps last same k = name_passes p (leaf_place p place_is) h.text r h.stands u (leaf_meaning l) o ps last h.means (leaf_row l own r o h.fits same) k
+  passes : (o : Open) (ps : List Part) → o.last ≡ any → IsBinding own o → Advanced r u → outcome (end_of r) (name p ∷ ps) (declared o r) r.tokens.now ≡ outcome (end_of u) ps (named p (leaf_meaning l) (declared o u)) u.tokens.now
+  passes o ps last there k = name_passes p (leaf_place p place_is) h.text r h.stands u (leaf_meaning l) o ps last h.means (leaf_row l own r o h.fits there) k
 
   -- it was read
   pub leaf_reads : Advanced r u → sees terminal.OpenParen u.tokens.now ≡ false → ReadsLeaf p own r l u
-  leaf_reads k alone = record { by = λ o ready same ps. ap settled (passes o ps ready.last same k) ∙ alone_by p l ps (end_of u) (declared o u) u.tokens.now alone }
+  leaf_reads k alone = record { by = λ o ready there ps. ap settled (passes o ps ready.last there k) ∙ alone_by p l ps (end_of u) (declared o u) u.tokens.now alone }
 
   -- a `(` stands behind it
   pub leaf_stops : (e : SpecError) → LeadsToParen kind.Expected r e u → StopsLeaf p own r e
-  leaf_stops e k = record { by = λ o ready same. record { by = λ ne ps.
-      ap (λ z. as_error (settled z)) (passes o ps ready.last same k.advanced ∙ applied_by p l ps (end_of u) (declared o u) u.tokens.now k.seen) ∙ ap Err (sym k.told) } }
+  leaf_stops e k = record { by = λ o ready there. record { by = λ ne ps.
+      ap (λ z. as_error (settled z)) (passes o ps ready.last there k.advanced ∙ applied_by p l ps (end_of u) (declared o u) u.tokens.now k.seen) ∙ ap Err (sym k.told) } }
 
 -- it may stand there still
-pub leaf_kept : (own : List ℕ) (r u : Reader) (l : Leaf) → state_of u ≡ state_of r → IsLeaf own r l → IsLeaf own u l
-leaf_kept own r u (leaves.Variable v) e fits = subst (λ (d : Declared). has_room d.bound own v ≡ true) (sym e) fits
-leaf_kept own r u (leaves.State q) e fits = subst (λ (d : Declared). q < length d.initial.states) (sym e) fits
+pub leaf_kept : (own : List ℕ) (r u : Reader) (l : Leaf) → state_of u ≡ state_of r → u.bound ≡ r.bound → IsLeaf own r l → IsLeaf own u l
+leaf_kept own r u (leaves.Variable v) e b fits = subst (λ z. has_room z own v ≡ true) (sym b) fits
+leaf_kept own r u (leaves.State q) e b fits = subst (λ (d : Declared). q < length d.initial.states) (sym e) fits
 
 -- ---- targets
 
@@ -309,10 +313,10 @@ unfolding adds
 head_adds d text = refl
 
 -- what a symbol at the head of an entry adds
-pub head_declared : (form : Form) (r u : Reader) (text : Text) (e : StartedEntry) → e.form ≡ form → number_of r.signature text ≡ Some e.sym → arity_of r.signature e.sym ≡ Some e.arity → state_of u ≡ state_of r
+pub head_declared : (form : Form) (r u : Reader) (text : Text) (e : StartedEntry) → e.form ≡ form → number_of r.signature text ≡ Some e.sym → arity_of r.signature e.sym ≡ Some e.arity → state_of u ≡ state_of r → u.bound ≡ r.bound
     → declared (headed e) u ≡ adds (terminal.Named place.EntryHead) text (declared (formed form) r)
-head_declared form r u text e same is arity state =
-    head_named e.arity e u ∙ ap (named place.EntryHead (a_symbol e.sym e.arity)) (ap (λ f. declared (formed f) u) same ∙ declared_same (formed form) r u state)
+head_declared form r u text e same is arity state bound =
+    head_named e.arity e u ∙ ap (named place.EntryHead (a_symbol e.sym e.arity)) (ap (λ f. declared (formed f) u) same ∙ declared_same (formed form) r u state bound)
     ∙ ap (λ m. named place.EntryHead m (declared (formed form) r)) (ap (a_symbol e.sym) (sym (ap (λ o. unwrap_or o 0) arity)) ∙ sym (means_head (declared (formed form) r) text e.sym is))
     ∙ sym (head_adds (declared (formed form) r) text)
 

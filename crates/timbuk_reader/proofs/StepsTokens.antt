@@ -107,7 +107,7 @@ not_closed terminal.Quoted x e = open_text x.kind _ e
 
 -- ---- and only the word `Approximation` begins an approximation
 
-abbrev IsOther : Terminal → Type 0
+abbrev pub IsOther : Terminal → Type 0
 IsOther terminal.Approximation = ⊥
 IsOther _ = Unit {0}
 
@@ -241,12 +241,12 @@ pub calm_arity : (d : Declared) (x : Lexeme) → d.applications ≡ [] → d.las
 unfolding wrong_arity
 calm_arity d x e f = rw (e, f) refl
 
-calm_quiet : (d : Declared) (x : Lexeme) → d.applications ≡ [] → d.last ≡ any → Quiet d x
+pub calm_quiet : (d : Declared) (x : Lexeme) → d.applications ≡ [] → d.last ≡ any → Quiet d x
 calm_quiet d x e f = record { arity = calm_arity d x e f; leaf = rw f refl }
 
 -- what is open makes no difference to the reader's state
-pub declared_same : (o : Open) (r u : Reader) → state_of u ≡ state_of r → declared o u ≡ declared o r
-declared_same o r u e = ap (inside o) e
+pub declared_same : (o : Open) (r u : Reader) → state_of u ≡ state_of r → u.bound ≡ r.bound → declared o u ≡ declared o r
+declared_same o r u e b = λ i. inside o (b i) (e i)
 
 mark_other : (t : Terminal) → IsMark t → IsOther t
 mark_other terminal.Approximation m = absurd m
@@ -286,7 +286,7 @@ mark_leads t o r u m h k = record {
   by = λ ps.
       ap settled (ap (outcome (end_of r) (one t ∷ ps) (declared o r)) k.tokens
       ∙ mark_on t ps (end_of r) (declared o r) k.token u.tokens.now m h.applications h.last k.matched
-      ∙ (λ i. outcome (sym k.end i) ps (sym (declared_same o r u k.state) i) u.tokens.now));
+      ∙ (λ i. outcome (sym k.end i) ps (sym (declared_same o r u k.state k.bound) i) u.tokens.now));
 }
 
 -- a terminal was not there
@@ -302,8 +302,8 @@ closed_calm = record { applications = refl; last = refl }
 pub naming_calm : (name : Bytes) → IsCalm (naming name)
 naming_calm name = record { applications = refl; last = refl }
 
-pub took : (t : Terminal) (r u : Reader) (x : Lexeme) → sees t r.tokens.now ≡ true → r.tokens.now ≡ x ∷ u.tokens.now → state_of u ≡ state_of r → end_of u ≡ end_of r → Took t r u
-took t r u x e h s n = record { token = x; matched = rw h at e; tokens = h; state = s; end = n }
+pub took : (t : Terminal) (r u : Reader) (x : Lexeme) → sees t r.tokens.now ≡ true → r.tokens.now ≡ x ∷ u.tokens.now → state_of u ≡ state_of r → u.bound ≡ r.bound → end_of u ≡ end_of r → Took t r u
+took t r u x e h s b n = record { token = x; matched = rw h at e; tokens = h; state = s; bound = b; end = n }
 
 pub mark_reads : {X : Type 0} (t : Terminal) (o : Open) (r u : Reader) (result : Result X SpecError) → IsMark t → IsCalm o → Takes t r result u → Reads (one t) o r result o u
 mark_reads t o r u (Ok x) m h k = mark_leads t o r u m h k

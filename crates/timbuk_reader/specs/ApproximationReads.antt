@@ -38,6 +38,11 @@ pub record IsNewApproximation (r : Reader) : Type 0 where
 abbrev pub NoLonger : Reader → Reader → Type 0
 NoLonger old new = length new.tokens.now ≤ length old.tokens.now
 
+-- only the tokens are others
+pub record OnlyTokens (old new : Reader) : Type 0 where
+  pub state : state_of new ≡ state_of old
+  pub bound : new.bound ≡ old.bound
+
 -- the same tokens are left
 pub record SameTokens (old new : Reader) : Type 0 where
   pub tokens : new.tokens.now ≡ old.tokens.now
@@ -109,13 +114,19 @@ pub record ReadsName (p : Place) (old : Reader) (m : Meaning) (new : Reader) : T
 pub record StopsName (p : Place) (old : Reader) (e : SpecError) : Type 0 where
   pub by : (o : Open) → IsReady o old → Stops (name p) o old e
 
--- the same, where the entry has these variables of its own
+-- a declaration is open that binds variables, and has these of its own
+pub record IsBinding (own : List ℕ) (o : Open) : Type 0 where
+  pub binds : o.binds ≡ true
+  pub own_is : o.own ≡ own
+
+-- a variable or a state was read there
 pub record ReadsLeaf (p : Place) (own : List ℕ) (old : Reader) (l : Leaf) (new : Reader) : Type 0 where
-  pub by : (o : Open) → IsReady o old → o.own ≡ own → (ps : List Part)
+  pub by : (o : Open) → IsReady o old → IsBinding own o → (ps : List Part)
     → from o (name p ∷ ps) old ≡ settled (outcome (end_of new) ps (record (named p (leaf_meaning l) (declared o new)) { last = any }) new.tokens.now)
 
+-- none can be read there
 pub record StopsLeaf (p : Place) (own : List ℕ) (old : Reader) (e : SpecError) : Type 0 where
-  pub by : (o : Open) → IsReady o old → o.own ≡ own → Stops (name p) o old e
+  pub by : (o : Open) → IsReady o old → IsBinding own o → Stops (name p) o old e
 
 -- whether a variable may stand where these are bound and these are the entry's own
 abbrev pub has_room : List ℕ → List ℕ → ℕ → Bool
@@ -132,6 +143,11 @@ pub record HasLeaf (p : Place) (own : List ℕ) (r : Reader) (l : Leaf) : Type 0
   pub stands : Stands (terminal.Named p) r text
   pub means : meaning (state_of r) p text ≡ leaf_meaning l
   pub fits : IsLeaf own r l
+
+-- these bound variables with that of a leaf
+abbrev pub with_leaf : List ℕ → Leaf → List ℕ
+with_leaf bound (leaf.Variable v) = with_variable bound v
+with_leaf bound (leaf.State q) = bound
 
 -- an entry's own variables with those of a further argument, where these are bound
 abbrev pub with_own : List ℕ → Leaf → List ℕ → List ℕ
@@ -200,3 +216,4 @@ form_entries = one terminal.Arrow then one terminal.OpenBracket then some entry 
 -- only the entries and the tokens are others
 pub record OnlyEntries (old new : Reader) : Type 0 where
   pub state : state_of new ≡ record (state_of old) { entries = new.entries }
+  pub bound : new.bound ≡ old.bound

@@ -12,4 +12,5 @@ pub mod Reads
 pub mod Kept
 pub mod Patterns
 pub mod Meanings
+pub mod Sides
 pub mod ApproximationReads

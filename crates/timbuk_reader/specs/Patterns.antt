@@ -34,7 +34,7 @@ IsPatternPlace _ = ⊥
 
 -- these applications are open, the innermost first, and these sides of the declaration are whole
 abbrev pub within : List Application → List Shape → Open
-within applications shapes = record closed { applications = applications; shapes = shapes }
+within applications shapes = record closed { applications = applications; shapes = shapes; binds = true }
 
 -- the innermost application lacks an argument
 abbrev pub HasRoom : List Application → Type 0
@@ -165,7 +165,7 @@ pattern_fault p m depth r = or (option_map kind.Limit (pattern_limit m depth r.b
 
 -- only the bound variables and the tokens are others
 pub record SameBut (old new : Reader) : Type 0 where
-  pub state : state_of new ≡ record (state_of old) { bound = new.bound }
+  pub state : state_of new ≡ state_of old
   pub end : end_of new ≡ end_of old
 
 -- the states that may stand in a pattern are those below this number
@@ -199,6 +199,7 @@ pub record Advanced (old new : Reader) : Type 0 where
   pub token : Lexeme
   pub tokens : old.tokens.now ≡ token ∷ new.tokens.now
   pub state : state_of new ≡ state_of old
+  pub bound : new.bound ≡ old.bound
   pub end : end_of new ≡ end_of old
 
 -- a `(` follows, and that is told

@@ -67,6 +67,7 @@ pub record Took (t : Terminal) (old new : Reader) : Type 0 where
   pub matched : matches t token ≡ true
   pub tokens : old.tokens.now ≡ token ∷ new.tokens.now
   pub state : state_of new ≡ state_of old
+  pub bound : new.bound ≡ old.bound
   pub end : end_of new ≡ end_of old
 
 -- the next token isn't what the terminal stands for, and that is told

@@ -43,10 +43,17 @@ pub record Open : Type 0 where
   pub head : Head
   pub head_args : List ℕ
   pub last : Last
+  -- the reader's bound variables are those of this declaration
+  pub binds : Bool
 
 -- no declaration is open
 abbrev pub closed : Open
-closed = record { name = []; applications = []; shapes = []; own = []; head = no_head; head_args = []; last = any }
+closed = record { name = []; applications = []; shapes = []; own = []; head = no_head; head_args = []; last = any; binds = false }
+
+-- the bound variables, which mean nothing where no declaration has any
+abbrev pub bound_in : Bool → List ℕ → List ℕ
+bound_in true bound = bound
+bound_in false bound = []
 
 -- a symbol of this name, whose arity comes
 abbrev pub naming : Text → Open
@@ -70,16 +77,16 @@ declared o r = record {
   entries = r.entries;
   applications = o.applications;
   shapes = o.shapes;
-  bound = r.bound;
+  bound = bound_in o.binds r.bound;
   own = o.own;
   head = o.head;
   head_args = o.head_args;
   last = o.last;
 }
 
--- the same declarations, and this open one
-abbrev pub inside : Open → Declared → Declared
-inside o d = record d { name = o.name; applications = o.applications; shapes = o.shapes; own = o.own; head = o.head; head_args = o.head_args; last = o.last }
+-- the same declarations, and this open one with these bound variables
+abbrev pub inside : Open → List ℕ → Declared → Declared
+inside o bound d = record d { name = o.name; applications = o.applications; shapes = o.shapes; bound = bound_in o.binds bound; own = o.own; head = o.head; head_args = o.head_args; last = o.last }
 
 abbrev pub state_of : Reader → Declared
 state_of r = declared closed r

@@ -7,7 +7,7 @@ ghost use Rattle.timbuk_reader.specs.Declarations.{a_state};
 ghost use Rattle.timbuk_reader.specs.View.{Shorter, closed, state_of, sees};
 ghost use Rattle.timbuk_reader.specs.Reads.{Leads, Stops, Reads};
 ghost use Rattle.timbuk_reader.specs.Patterns.{within, SameBut};
-ghost use Rattle.timbuk_reader.specs.ApproximationReads.{IsNewApproximation, NoLonger, SameTokens, OnlyEntries, IsLeafPlace, ReadsName, StopsName, HasLeaf, ReadsLeaf, StopsLeaf, IsLeaf, IsPart, IsForm, IsStarted, IsNewEntry, AddsArgument, SameHead, HasArguments};
+ghost use Rattle.timbuk_reader.specs.ApproximationReads.{IsNewApproximation, NoLonger, OnlyTokens, SameTokens, OnlyEntries, IsLeafPlace, ReadsName, StopsName, HasLeaf, ReadsLeaf, StopsLeaf, IsLeaf, IsPart, IsForm, IsStarted, IsNewEntry, AddsArgument, SameHead, HasArguments};
 ghost use Rattle.timbuk_reader.specs.ApproximationReads as entries;
 
 use crate::fault::{LimitName, SpecError, SpecKind};
@@ -142,13 +142,14 @@ impl<'s, 'a> Reader<'s, 'a> {
         Ok(())
     }
 
-    /// An approximation rule, whose entries are added.
+    /// An approximation rule, whose entries are added. No variable is bound in front of it.
     fn approximation_rule(&mut self) -> Result<(), SpecError>
         requires { self.old.approximations ≢ 0 }
         ensures shorter { OnOk result (Shorter self.old self.new) }
         ensures reads { Reads grammar.approximation_rule closed self.old result closed self.new }
         ensures same { OnOk result (self.new.approximations ≡ self.old.approximations) }
     {
+        self.bound = Seq::new(self.alloc);
         self.mark(Terminal::OpenBracket)?;
         let whole = self.pattern(Place::EntryWhole, 0)?;
         self.mark(Terminal::Arrow)?;
@@ -168,16 +169,27 @@ impl<'s, 'a> Reader<'s, 'a> {
         ensures same { OnOk result (SameBut self.old self.new) }
     {
         let at = self.entry_leaf(Place::EntryAt, &[])?;
-        if let Leaf::Variable(variable) = at {
-            self.bind(variable)?;
-        }
+        self.bind_leaf(at)?;
         Ok(Form {
             whole,
             at: at.shape(),
         })
     }
 
-    /// What follows the form of an approximation rule: its entries, and their end, behind which no variable is bound.
+    /// Notes the variable of a form as one that is bound. The only error is want of memory.
+    fn bind_leaf(&mut self, leaf: Leaf) -> Result<(), AllocError>
+        requires { IsLeaf [] self.old leaf }
+        ensures bound { OnOk result (self.new.bound ≡ entries.with_leaf self.old.bound leaf) }
+        ensures same { OnOk result (SameBut self.old self.new) }
+        ensures tokens { self.new.tokens.now ≡ self.old.tokens.now }
+    {
+        match leaf {
+            Leaf::Variable(variable) => self.bind(variable),
+            Leaf::State(_) => Ok(()),
+        }
+    }
+
+    /// What follows the form of an approximation rule: its entries, and their end.
     fn form_entries(&mut self, form: &Form) -> Result<(), SpecError>
         requires form { IsForm self.old form.now }
         requires begun { self.old.approximations ≢ 0 }
@@ -188,9 +200,7 @@ impl<'s, 'a> Reader<'s, 'a> {
         self.mark(Terminal::Arrow)?;
         self.mark(Terminal::OpenBracket)?;
         self.entries(form)?;
-        self.take(Terminal::CloseEntries)?;
-        self.bound = Seq::new(self.alloc);
-        Ok(())
+        self.take(Terminal::CloseEntries)
     }
 }
 
@@ -236,7 +246,7 @@ impl<'s, 'a> Reader<'s, 'a> {
         ensures err { IfErr result (Stops (grammar.name place.EntryHead) (entries.formed form.now) self.old) }
         ensures started { IfOk result (IsStarted self.new) }
         ensures new { IfOk result (IsNewEntry form.now) }
-        ensures same { OnOk result (state_of self.new ≡ state_of self.old) }
+        ensures same { OnOk result (OnlyTokens self.old self.new) }
     {
         let name = self.word(Terminal::Named(Place::EntryHead))?;
         if self.entries.len() >= MAX_ENTRIES {
@@ -262,7 +272,7 @@ impl<'s, 'a> Reader<'s, 'a> {
         ensures ok { IfOk result (λ target. ReadsName place.EntryTarget self.old (a_state target) self.new) }
         ensures err { IfErr result (StopsName place.EntryTarget self.old) }
         ensures below { IfOk result (λ target. target < length self.new.initial.states) }
-        ensures same { OnOk result (state_of self.new ≡ state_of self.old) }
+        ensures same { OnOk result (OnlyTokens self.old self.new) }
     {
         let name = self.word(Terminal::Named(Place::EntryTarget))?;
         let Some(target) = self.initial.states.find(name) else {
@@ -305,7 +315,7 @@ impl<'s, 'a> Reader<'s, 'a> {
         ensures head { OnOk result (SameHead entry.old entry.new) }
         ensures started { OnOk result (IsStarted self.new entry.new) }
         ensures full { OnOk result (length entry.new.args ≡ entry.new.arity) }
-        ensures same { OnOk result (state_of self.new ≡ state_of self.old) }
+        ensures same { OnOk result (OnlyTokens self.old self.new) }
     {
         if entry.arity == 0 {
             return self.no_arguments();
@@ -339,7 +349,7 @@ impl<'s, 'a> Reader<'s, 'a> {
         ensures head { OnOk result (SameHead entry.old entry.new) }
         ensures started { OnOk result (IsStarted self.new entry.new) }
         ensures count { OnOk result (length entry.new.args ≡ length entry.old.args + 1) }
-        ensures same { OnOk result (state_of self.new ≡ state_of self.old) }
+        ensures same { OnOk result (OnlyTokens self.old self.new) }
     {
         if self.sees(Terminal::CloseParen) {
             return Err(self.refusal(SpecKind::WrongArity));
@@ -358,7 +368,7 @@ impl<'s, 'a> Reader<'s, 'a> {
         ensures ok { IfOk result (λ leaf. ReadsLeaf place own.now self.old leaf self.new) }
         ensures err { IfErr result (StopsLeaf place own.now self.old) }
         ensures leaf { IfOk result (IsLeaf own.now self.new) }
-        ensures same { OnOk result (state_of self.new ≡ state_of self.old) }
+        ensures same { OnOk result (OnlyTokens self.old self.new) }
     {
         let leaf = self.next_leaf(place, own)?;
         self.leaf(SpecKind::Expected)?;

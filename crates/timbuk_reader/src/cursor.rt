@@ -79,6 +79,7 @@ impl<'s, 'a> Reader<'s, 'a> {
         requires { 0 < length self.old.tokens.now }
         ensures token { self.old.tokens.now ≡ result.now ∷ self.new.tokens.now }
         ensures state { state_of self.new ≡ state_of self.old }
+        ensures bound { self.new.bound ≡ self.old.bound }
         ensures end { end_of self.new ≡ end_of self.old }
     {
         let token = &self.tokens[0];

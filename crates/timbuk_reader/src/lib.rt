@@ -9,7 +9,9 @@ mod laws;
 mod meaning;
 mod names;
 mod pattern;
+mod rules;
 mod state;
+mod stubs;
 mod stubs;
 mod symbols;
 

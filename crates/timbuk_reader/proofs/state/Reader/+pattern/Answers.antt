@@ -1,8 +1,13 @@
-use Rattle.std.proofs.Common.{◌≡◌, ◌<◌, ◌≤◌, ◌+◌, ℕ, length, List, [], ◌∷◌, ◌++◌, refl, sym, ap, ◌∙◌, arith, length-append}
+use Rattle.std.proofs.Common.{◌≡◌, ◌<◌, ◌≤◌, ◌+◌, ℕ, length, List, [], ◌∷◌, ◌++◌, refl, sym, ap, ◌∙◌, subst, arith, length-append}
 use Rattle.std.proofs.lemmas.Grind.{common_steps}
 use Rattle.timbuk_grammar.specs.declared.terminal.Terminal.TheVariants as terminal
-use Rattle.timbuk_reader.specs.Patterns.{Misapplies, Breaks}
-use Rattle.timbuk_reader.proofs.ReaderFits.{same_now, fits_none, fits_more}
+use Rattle.timbuk_reader.specs.Declarations.{Declared, a_symbol}
+use Rattle.timbuk_reader.specs.Meanings.{meant_by}
+use Rattle.timbuk_reader.specs.View.{state_of}
+use Rattle.timbuk_reader.specs.Patterns.{Misapplies, Breaks, HasHead}
+use Rattle.timbuk_reader.proofs.ReaderMeanings.{symbol_arity}
+use Rattle.timbuk_reader.proofs.ReaderPatterns.{function_breaks, function_builds}
+use Rattle.timbuk_reader.proofs.ReaderFits.{same_now, fits_none, fits_more, fits_application}
 use Rattle.timbuk_reader.proofs.ReaderArguments.{took_less, first_breaks, first_builds, next_breaks, next_builds, all_applied, lacks_first, lacks_next, lacks_last}
 use Rattle.timbuk_reader.proofs.state.Reader.+pattern.Goals as goal
 
@@ -36,7 +41,7 @@ arguments-loop-place-init t c =
       some = let e = ap length items in omega arith;
       shorter = omega arith;
       filled = rw items (first_builds c.args.place c.args.sym c.args.arity c.args.depth c.requires.some r m u shape k c.in_ok-pattern.ensures.reads);
-      fits = rw items (fits_more c.args.place r r m u [] shape (fits_none c.args.place r r refl (same_now r r refl refl)) k.state k.end c.in_ok-pattern.ensures.fits);
+      fits = rw items (fits_more c.args.place r r m u [] shape (fits_none c.args.place r r refl (same_now r r refl refl)) k.state k.bound k.end c.in_ok-pattern.ensures.fits);
     }
 
 pub arguments-returns-in_err-next_argument-clause-reads : goal.arguments-returns-in_err-next_argument-clause-reads
@@ -71,7 +76,7 @@ arguments-loop-place-preserved t c =
       some = omega arith;
       shorter = omega arith;
       filled = rw items (next_builds c.args.place c.args.sym c.args.arity c.args.depth r m v u c.loop-place.args shape before.filled (omega arith) k c.in_ok-pattern-2.ensures.reads);
-      fits = rw items (fits_more c.args.place r m v u c.loop-place.args shape before.fits k.state k.end c.in_ok-pattern-2.ensures.fits);
+      fits = rw items (fits_more c.args.place r m v u c.loop-place.args shape before.fits k.state k.bound k.end c.in_ok-pattern-2.ensures.fits);
     }
 
 pub arguments-returns-in_err-last_argument-clause-reads : goal.arguments-returns-in_err-last_argument-clause-reads
@@ -84,3 +89,32 @@ arguments-returns-in_err-last_argument-clause-reads t c =
 pub arguments-returns-clause-reads : goal.arguments-returns-clause-reads
 arguments-returns-clause-reads t c =
     all_applied c.args.place c.args.sym c.args.arity c.args.depth c.args.self.now c.loop-place.self c.last_argument.new.self c.loop-place.args c.loop-place.invariant.filled (omega arith) c.in_ok-last_argument.ensures
+
+-- ---- a symbol with arguments
+
+pub pattern-returns-in_err-args-in-Symbol-clause-reads : goal.pattern-returns-in_err-args-in-Symbol-clause-reads
+pattern-returns-in_err-args-in-Symbol-clause-reads t c =
+    let r = c.args.self.now in
+    let u = c.advance.new.self in
+    let e = c.in_err-args-in-Symbol.field-0.0 in
+    let head : HasHead c.args.place c.args.depth r (a_symbol c.in-Symbol.sym c.in-Symbol.arity) = subst (λ z. HasHead c.args.place c.args.depth r (meant_by z)) c.in-Symbol.is c.in_ok-pattern_head.ensures.ok in
+    let breaks : Breaks c.args.place c.args.depth r e =
+        function_breaks c.args.place c.requires.place r u c.args.depth head.text head.stands c.advance.result.now c.advance.ensures.token (same_now r u c.advance.ensures.state c.advance.ensures.end)
+          c.advance.ensures.bound c.in-Symbol.sym c.in-Symbol.arity e (omega arith) head.means head.fits c.in_err-args-in-Symbol.ensures.reads in
+    grind (arith, common_steps)
+
+pub pattern-returns-in_ok-args-in-Symbol-clause-reads : goal.pattern-returns-in_ok-args-in-Symbol-clause-reads
+pattern-returns-in_ok-args-in-Symbol-clause-reads t c =
+    let r = c.args.self.now in
+    let u = c.advance.new.self in
+    let head : HasHead c.args.place c.args.depth r (a_symbol c.in-Symbol.sym c.in-Symbol.arity) = subst (λ z. HasHead c.args.place c.args.depth r (meant_by z)) c.in-Symbol.is c.in_ok-pattern_head.ensures.ok in
+    function_builds c.args.place c.requires.place r u c.args.depth head.text head.stands c.advance.result.now c.advance.ensures.token (same_now r u c.advance.ensures.state c.advance.ensures.end)
+      c.advance.ensures.bound c.in-Symbol.sym c.in-Symbol.arity c.in_ok-args-in-Symbol.args c.arguments.new.self (omega arith) head.means head.fits c.in_ok-args-in-Symbol.ensures.reads
+
+pub pattern-returns-in_ok-args-in-Symbol-clause-fits : goal.pattern-returns-in_ok-args-in-Symbol-clause-fits
+pattern-returns-in_ok-args-in-Symbol-clause-fits t c =
+    let r = c.args.self.now in
+    let u = c.advance.new.self in
+    let head : HasHead c.args.place c.args.depth r (a_symbol c.in-Symbol.sym c.in-Symbol.arity) = subst (λ z. HasHead c.args.place c.args.depth r (meant_by z)) c.in-Symbol.is c.in_ok-pattern_head.ensures.ok in
+    fits_application c.args.place r u c.arguments.new.self c.in-Symbol.sym c.in-Symbol.arity c.in_ok-args-in-Symbol.args
+      (symbol_arity (state_of r) c.args.place head.text c.in-Symbol.sym c.in-Symbol.arity head.means) c.in_ok-args-in-Symbol.ensures.count c.advance.ensures.state c.advance.ensures.bound c.advance.ensures.end c.in_ok-args-in-Symbol.ensures.fits

@@ -27,7 +27,7 @@ returns-clause-reads c =
     let head = c.requires.head in
     let advanced = c.in_ok-leaf.ensures.0 in
     subst (λ args. Builds c.args.place c.args.depth r (shape.App c.args.sym args) u) (sym c.new.ensures)
-      (constant_builds c.args.place c.requires.place r u c.args.depth head.text head.stands advanced.token advanced.tokens (same_now r u advanced.state advanced.end) (ap (λ (d : Declared). d.bound) advanced.state) c.args.sym head.means head.fits c.in_ok-leaf.ensures.1)
+      (constant_builds c.args.place c.requires.place r u c.args.depth head.text head.stands advanced.token advanced.tokens (same_now r u advanced.state advanced.end) advanced.bound c.args.sym head.means head.fits c.in_ok-leaf.ensures.1)
 
 pub returns-clause-fits : goal.returns-clause-fits
 returns-clause-fits c =
@@ -36,4 +36,4 @@ returns-clause-fits c =
     let head = c.requires.head in
     let advanced = c.in_ok-leaf.ensures.0 in
     subst (λ args. Fits c.args.place r (shape.App c.args.sym args) u) (sym c.new.ensures)
-      (fits_application c.args.place r u u c.args.sym 0 [] (symbol_arity (state_of r) c.args.place head.text c.args.sym 0 head.means) refl advanced.state advanced.end (fits_none c.args.place u u refl (same_now u u refl refl)))
+      (fits_application c.args.place r u u c.args.sym 0 [] (symbol_arity (state_of r) c.args.place head.text c.args.sym 0 head.means) refl advanced.state advanced.bound advanced.end (fits_none c.args.place u u refl (same_now u u refl refl)))

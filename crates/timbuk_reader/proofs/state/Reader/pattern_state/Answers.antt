@@ -25,7 +25,7 @@ returns-clause-reads c =
     let u = c.leaf.new.self in
     let head = c.requires.head in
     let advanced = c.in_ok-leaf.ensures.0 in
-    state_builds c.args.place c.requires.place r u c.args.depth head.text head.stands advanced.token advanced.tokens (same_now r u advanced.state advanced.end) (ap (λ (d : Declared). d.bound) advanced.state) c.args.state head.means head.fits c.in_ok-leaf.ensures.1
+    state_builds c.args.place c.requires.place r u c.args.depth head.text head.stands advanced.token advanced.tokens (same_now r u advanced.state advanced.end) advanced.bound c.args.state head.means head.fits c.in_ok-leaf.ensures.1
 
 pub returns-clause-fits : goal.returns-clause-fits
 returns-clause-fits c =
@@ -33,4 +33,4 @@ returns-clause-fits c =
     let u = c.leaf.new.self in
     let head = c.requires.head in
     let advanced = c.in_ok-leaf.ensures.0 in
-    fits_state c.args.place r u c.args.state (counted c.args.place r c.args.state c.requires.place (state_below (state_of r) c.args.place head.text c.args.state head.means)) (ap (λ (d : Declared). d.bound) advanced.state) (same_now r u advanced.state advanced.end)
+    fits_state c.args.place r u c.args.state (counted c.args.place r c.args.state c.requires.place (state_below (state_of r) c.args.place head.text c.args.state head.means)) advanced.bound (same_now r u advanced.state advanced.end)

@@ -29,7 +29,7 @@ returns-clause-reads c =
     let advanced = c.in_ok-leaf.ensures.0 in
     let same : SameBut r u = same_then r m u c.in_ok-bind.ensures.same (same_now m u advanced.state advanced.end) in
     variable_builds c.args.place c.requires.place r u c.args.depth head.text head.stands advanced.token (sym c.bind.ensures.tokens ∙ advanced.tokens) same c.args.variable head.means head.fits
-      (ap (λ (d : Declared). d.bound) advanced.state ∙ c.in_ok-bind.ensures.bound) c.in_ok-leaf.ensures.1
+      (advanced.bound ∙ c.in_ok-bind.ensures.bound) c.in_ok-leaf.ensures.1
 
 pub returns-clause-fits : goal.returns-clause-fits
 returns-clause-fits c =
@@ -39,4 +39,4 @@ returns-clause-fits c =
     let head = c.requires.head in
     let advanced = c.in_ok-leaf.ensures.0 in
     fits_variable c.args.place r u c.args.variable (may_stand c.args.place c.args.variable c.args.depth r head.fits)
-      (ap (λ (d : Declared). d.bound) advanced.state ∙ c.in_ok-bind.ensures.bound) (same_then r m u c.in_ok-bind.ensures.same (same_now m u advanced.state advanced.end))
+      (advanced.bound ∙ c.in_ok-bind.ensures.bound) (same_then r m u c.in_ok-bind.ensures.same (same_now m u advanced.state advanced.end))

@@ -40,4 +40,4 @@ returns-clause-ok c =
     let absent : is_in (names_of r.signature) text ≡ Rattle.std.proofs.Common.false = is_in-position (names_of r.signature) text ∙ ap is_some (sym c.find.ensures.value) ∙ sym c.is_some.ensures ∙ c.if-is_some.false in
     word_leads (terminal.Named place.Symbol) closed (naming text) r c.advance.new.self text c.advance.result.now tt closed_calm stands
     (declared_new place.Symbol text (state_of r) tt stands.short (below 4096 (length r.signature) limit.Symbols few) absent) c.advance.ensures.token c.advance.ensures.end
-    (declared_same (naming text) r c.advance.new.self c.advance.ensures.state)
+    (declared_same (naming text) r c.advance.new.self c.advance.ensures.state c.advance.ensures.bound)

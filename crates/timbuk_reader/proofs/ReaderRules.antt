@@ -1,0 +1,180 @@
+-- Reading rules and equations.
+use Rattle.std.proofs.Common.{◌≡◌, ◌≢◌, ◌↔◌, ℕ, zero, suc, ◌+◌, ◌<◌, ◌≤◌, length, Bool, true, false, ◌&&◌, ◌==◌, IsTrue, List, [], ◌∷◌, ◌++◌, map, Option, Some, None, Ok, Err, Result, refl, ap, sym, ◌∙◌, subst, arith}
+use Rattle.std.specs.Prelude.{option_map, nat_le, fold}
+use Rattle.std.specs.List.{list_all}
+use Rattle.std.proofs.lemmas.Bool.{and_parts, and_from}
+use Rattle.std.proofs.lemmas.Bool.Decides.{nat_tests}
+use Rattle.std.proofs.lemmas.Grind.{fold-append}
+use Rattle.ranked_terms.specs.Names.{Symbol}
+use Rattle.ranked_terms.specs.Terms as terms
+use Rattle.ranked_terms.specs.Terms.{pattern_is_over, occurrences, firsts, variables_of}
+use Rattle.ranked_terms.specs.declared.term.Shape.{Shape}
+use Rattle.ranked_terms.specs.declared.term.Pattern.{Pattern}
+use Rattle.trs_rules.specs.Rules.{RewriteRule, RewriteEquation, IsVariable, IsLinear, IsBound}
+use Rattle.trs_rules.specs.Variables.{first_repeat, first_free}
+use Rattle.trs_rules.specs.declared.rule.RuleFault.{RuleFault}
+use Rattle.trs_rules.specs.declared.rule.RuleFault.TheVariants as fault
+use Rattle.ta_core.specs.SpecRules.{rules_are_over, equations_are_over}
+use Rattle.timbuk_lex.specs.declared.lexeme.Lexeme.{Lexeme}
+use Rattle.timbuk_grammar.specs.declared.terminal.Place.{Place}
+use Rattle.timbuk_grammar.specs.declared.terminal.Place.TheVariants as place
+use Rattle.timbuk_grammar.specs.declared.terminal.Terminal.{Terminal}
+use Rattle.timbuk_grammar.specs.declared.terminal.Terminal.TheVariants as terminal
+use Rattle.timbuk_grammar.specs.Grammar.{Part, one, pattern}
+use Rattle.timbuk_grammar.specs.Matching.{matches}
+use Rattle.timbuk_reader.specs.declared.fault.SpecKind.{SpecKind}
+use Rattle.timbuk_reader.specs.declared.fault.SpecKind.TheVariants as kind
+use Rattle.timbuk_reader.specs.declared.fault.LimitName.TheVariants as limit
+use Rattle.timbuk_reader.specs.declared.fault.SpecError.{SpecError}
+use Rattle.timbuk_reader.specs.declared.fault.SpecError.TheVariants as error
+use Rattle.timbuk_reader.specs.declared.state.Reader.{Reader}
+use Rattle.timbuk_reader.specs.Declarations.{Declared, any, adds}
+use Rattle.timbuk_reader.specs.Rows.{passed, misnamed}
+use Rattle.timbuk_reader.specs.Reading.{outcome}
+use Rattle.timbuk_reader.specs.Naming.{shape_of}
+use Rattle.timbuk_reader.specs.View.{Open, closed, declared, state_of, end_of, settled, from, as_error, sees, refusal, refusal_at, rule_shapes, equation_shapes}
+use Rattle.timbuk_reader.specs.Reads.{Leads, Stops, Reads, IsCalm}
+use Rattle.timbuk_reader.specs.Patterns.{within, IsFirstSide, Builds, Breaks, Binds, IsSpot, SameBut}
+use Rattle.timbuk_reader.specs.Sides.{IsSide}
+use Rattle.timbuk_reader.proofs.Steps.{one_front, then_leads, then_stops, later_stops}
+use Rattle.timbuk_reader.proofs.StepsTokens.{IsOther, use_row, row_other, step_on, step_fault, calm_quiet}
+use Rattle.timbuk_reader.proofs.ReaderSides.{left_binds, right_binds, binds_firsts, no_variable, same_over}
+
+-- ---- the sides of a declaration
+
+no_applications : (p : Place) (shapes : List Shape) → IsFirstSide p shapes → IsSpot p 0 [] shapes
+no_applications p shapes first = record { depth_is = refl; room = tt; first = first }
+
+-- nothing is bound yet
+module _ (r : Reader) (unbound : r.bound ≡ []) where
+  opens : declared closed r ≡ declared (within [] []) r
+  opens = ap (λ b. record (declared closed r) { bound = b }) (sym unbound)
+
+  start : (ps : List Part) → from closed ps r ≡ from (within [] []) ps r
+  start ps = ap (λ d. settled (outcome (end_of r) ps d r.tokens.now)) opens
+
+  pub left_leads : (s : Shape) (u : Reader) → Builds place.LeftSide 0 r s u → Leads (pattern place.LeftSide) closed r (within [] (s ∷ [])) u
+  left_leads s u h = record { by = λ ps. start (pattern place.LeftSide ∷ ps) ∙ h.by ps [] [] (no_applications place.LeftSide [] refl) }
+
+  pub left_stops : (e : SpecError) → Breaks place.LeftSide 0 r e → Stops (pattern place.LeftSide) closed r e
+  left_stops e h = record { by = λ ne ps. ap as_error (start (pattern place.LeftSide ∷ ps)) ∙ h.by ne ps [] [] (no_applications place.LeftSide [] refl) }
+
+  pub equated_leads : (s : Shape) (u : Reader) → Builds place.EquationLeft 0 r s u → Leads (pattern place.EquationLeft) closed r (within [] (s ∷ [])) u
+  equated_leads s u h = record { by = λ ps. start (pattern place.EquationLeft ∷ ps) ∙ h.by ps [] [] (no_applications place.EquationLeft [] refl) }
+
+  pub equated_stops : (e : SpecError) → Breaks place.EquationLeft 0 r e → Stops (pattern place.EquationLeft) closed r e
+  equated_stops e h = record { by = λ ne ps. ap as_error (start (pattern place.EquationLeft ∷ ps)) ∙ h.by ne ps [] [] (no_applications place.EquationLeft [] refl) }
+
+-- the left side is whole
+pub side_calm : (s : Shape) → IsCalm (within [] (s ∷ []))
+side_calm s = record { applications = refl; last = refl }
+
+pub right_leads : (l s : Shape) (m u v : Reader) → Builds place.RightSide 0 m s u → state_of v ≡ record (state_of u) { rules = (state_of u).rules ++ (l, s) ∷ [] } → end_of v ≡ end_of u → v.tokens.now ≡ u.tokens.now
+    → Leads (pattern place.RightSide) (within [] (l ∷ [])) m closed v
+right_leads l s m u v h state end tokens = record { by = λ ps. h.by ps [] (l ∷ []) (no_applications place.RightSide (l ∷ []) tt) ∙ (λ i. settled (outcome (sym end i) ps (sym state i) (sym tokens i))) }
+
+pub right_stops : (l : Shape) (m : Reader) (e : SpecError) → Breaks place.RightSide 0 m e → Stops (pattern place.RightSide) (within [] (l ∷ [])) m e
+right_stops l m e h = record { by = λ ne ps. h.by ne ps [] (l ∷ []) (no_applications place.RightSide (l ∷ []) tt) }
+
+pub equal_leads : (l s : Shape) (m u v : Reader) → Builds place.EquationRight 0 m s u → state_of v ≡ record (state_of u) { equations = (state_of u).equations ++ (l, s) ∷ [] } → end_of v ≡ end_of u → v.tokens.now ≡ u.tokens.now
+    → Leads (pattern place.EquationRight) (within [] (l ∷ [])) m closed v
+equal_leads l s m u v h state end tokens = record { by = λ ps. h.by ps [] (l ∷ []) (no_applications place.EquationRight (l ∷ []) tt) ∙ (λ i. settled (outcome (sym end i) ps (sym state i) (sym tokens i))) }
+
+pub equal_stops : (l : Shape) (m : Reader) (e : SpecError) → Breaks place.EquationRight 0 m e → Stops (pattern place.EquationRight) (within [] (l ∷ [])) m e
+equal_stops l m e h = record { by = λ ne ps. h.by ne ps [] (l ∷ []) (no_applications place.EquationRight (l ∷ []) tt) }
+
+-- ---- what was read is a rule, or an equation
+
+module _ (left right : Pattern) (r m v u : Reader) (unbound : r.bound ≡ []) (l : IsSide place.LeftSide r left m) (still : v.bound ≡ m.bound) (h : IsSide place.RightSide v right u) (few : length m.bound ≤ 16) where
+  left_facts : (first_repeat (occurrences left) ≡ None) × (m.bound ≡ occurrences left)
+  left_facts = left_binds [] (occurrences left) m.bound (subst (λ z. Binds place.LeftSide z (occurrences left) m.bound) unbound l.binds)
+
+  no_free : first_free (occurrences left) (occurrences right) ≡ None
+  no_free = (right_binds (occurrences left) (occurrences right) u.bound (subst (λ z. Binds place.RightSide z (occurrences right) u.bound) (still ∙ left_facts.1) h.binds)).0
+
+  few_variables : length (variables_of left) ≤ 16
+  few_variables =
+      let e : variables_of left ≡ m.bound = binds_firsts place.LeftSide [] (occurrences left) m.bound (subst (λ z. Binds place.LeftSide z (occurrences left) m.bound) unbound l.binds) in
+      subst (λ z. length z ≤ 16) (sym e) few
+
+  -- a rule has no fault
+  pub no_rule_fault : (f : RuleFault) (result : Result RewriteRule RuleFault) → result ≡ Err f
+      → ((result ≡ Err fault.VariableLeft) ↔ IsVariable left)
+      → ((var : ℕ) → (result ≡ Err (fault.NotLeftLinear var)) ↔ (first_repeat (occurrences left) ≡ Some var))
+      → ((var : ℕ) → (result ≡ Err (fault.FreeVariable var)) ↔ ((IsVariable left → ⊥) × IsLinear left × (first_free (occurrences left) (occurrences right) ≡ Some var)))
+      → ((result ≡ Err fault.TooManyVariables) ↔ ((IsVariable left → ⊥) × IsLinear left × IsBound left right × (16 < length (variables_of left)))) → ⊥
+  no_rule_fault fault.VariableLeft result e a b c d = no_variable left l.no_variable (a.0 e)
+  no_rule_fault (fault.NotLeftLinear var) result e a b c d = let k = sym left_facts.0 ∙ (b var).0 e in cc
+  no_rule_fault (fault.FreeVariable var) result e a b c d = let k = sym no_free ∙ ((c var).0 e).2 in cc
+  no_rule_fault fault.TooManyVariables result e a b c d = let k = (d.0 e).3 in let n = few_variables in omega arith
+
+module _ (left right : Pattern) (r m v u : Reader) (unbound : r.bound ≡ []) (l : IsSide place.EquationLeft r left m) (still : v.bound ≡ m.bound) (h : IsSide place.EquationRight v right u) (few : length u.bound ≤ 16) where
+  -- an equation has few variables
+  pub few_equated : length (firsts (occurrences left ++ occurrences right)) ≤ 16
+  few_equated =
+      let first : fold terms.with_variable [] (occurrences left) ≡ m.bound = binds_firsts place.EquationLeft [] (occurrences left) m.bound (subst (λ z. Binds place.EquationLeft z (occurrences left) m.bound) unbound l.binds) in
+      let then : fold terms.with_variable v.bound (occurrences right) ≡ u.bound = binds_firsts place.EquationRight v.bound (occurrences right) u.bound h.binds in
+      let both : firsts (occurrences left ++ occurrences right) ≡ u.bound = fold-append terms.with_variable [] (occurrences left) (occurrences right) ∙ ap (λ z. fold terms.with_variable z (occurrences right)) (first ∙ sym still) ∙ then in
+      subst (λ z. length z ≤ 16) (sym both) few
+
+-- ---- section words
+
+trs_over : (text : List ℕ) (d : Declared) → 0 < d.systems → use_row terminal.Trs text d ≡ Some (kind.Limit limit.Systems)
+unfolding passed
+trs_over text d h = let e : nat_le 1 d.systems ≡ true = grind (arith, nat_tests) in rw e refl
+
+trs_new : (text : List ℕ) (d : Declared) → d.systems ≡ 0 → use_row terminal.Trs text d ≡ None
+unfolding passed misnamed
+trs_new text d h = let e : nat_le 1 d.systems ≡ false = grind (arith, nat_tests) in rw e refl
+
+equations_over : (text : List ℕ) (d : Declared) → 0 < d.equation_sections → use_row terminal.Equations text d ≡ Some (kind.Limit limit.EquationSections)
+unfolding passed
+equations_over text d h = let e : nat_le 1 d.equation_sections ≡ true = grind (arith, nat_tests) in rw e refl
+
+equations_new : (text : List ℕ) (d : Declared) → d.equation_sections ≡ 0 → use_row terminal.Equations text d ≡ None
+unfolding passed misnamed
+equations_new text d h = let e : nat_le 1 d.equation_sections ≡ false = grind (arith, nat_tests) in rw e refl
+
+module _ (r : Reader) (x : Lexeme) (rest : List Lexeme) (tokens : r.tokens.now ≡ x ∷ rest) where
+  word_fault : (t : Terminal) (k : SpecKind) (e : SpecError) → matches t x ≡ true → IsOther t → use_row t x.text (state_of r) ≡ Some k → e ≡ error.Fault (refusal k r) → Stops (one t) closed r e
+  word_fault t k e seen other row told = record { by = λ ne ps.
+      ap (λ z. as_error (settled z)) (ap (outcome (end_of r) (one t ∷ ps) (state_of r)) tokens
+        ∙ step_fault (one t ∷ ps) t ps (end_of r) (state_of r) x rest k (one_front t ps) seen (row_other t (state_of r) x other seen (calm_quiet (state_of r) x refl refl) ∙ row)
+        ∙ ap (λ xs. Err (refusal_at k (end_of r) xs)) (sym tokens)) ∙ ap Err (sym told) }
+
+  word_on : (t : Terminal) (u : Reader) → matches t x ≡ true → IsOther t → use_row t x.text (state_of r) ≡ None → u.tokens.now ≡ rest → end_of u ≡ end_of r → state_of u ≡ adds t x.text (state_of r) → Leads (one t) closed r closed u
+  word_on t u seen other row left end state = record { by = λ ps. ap settled (
+      ap (outcome (end_of r) (one t ∷ ps) (state_of r)) tokens
+      ∙ step_on (one t ∷ ps) t ps (end_of r) (state_of r) x rest (one_front t ps) seen (row_other t (state_of r) x other seen (calm_quiet (state_of r) x refl refl) ∙ row)
+      ∙ (λ i. outcome (sym end i) ps (sym state i) (sym left i))) }
+
+  pub system_stops : (e : SpecError) → matches terminal.Trs x ≡ true → 0 < r.systems → e ≡ error.Fault (refusal (kind.Limit limit.Systems) r) → Stops (one terminal.Trs) closed r e
+  system_stops e seen h told = word_fault terminal.Trs (kind.Limit limit.Systems) e seen tt (trs_over x.text (state_of r) h) told
+
+  pub system_leads : (u : Reader) → matches terminal.Trs x ≡ true → r.systems ≡ 0 → u.tokens.now ≡ rest → end_of u ≡ end_of r → state_of u ≡ record (state_of r) { systems = 1 } → Leads (one terminal.Trs) closed r closed u
+  unfolding adds
+  system_leads u seen none left end state = word_on terminal.Trs u seen tt (trs_new x.text (state_of r) none) left end (state ∙ ap (λ n. record (state_of r) { systems = n }) (sym (ap (λ n. n + 1) none)))
+
+  pub equations_stops : (e : SpecError) → matches terminal.Equations x ≡ true → 0 < r.equation_sections → e ≡ error.Fault (refusal (kind.Limit limit.EquationSections) r) → Stops (one terminal.Equations) closed r e
+  equations_stops e seen h told = word_fault terminal.Equations (kind.Limit limit.EquationSections) e seen tt (equations_over x.text (state_of r) h) told
+
+  pub equations_leads : (u : Reader) → matches terminal.Equations x ≡ true → r.equation_sections ≡ 0 → u.tokens.now ≡ rest → end_of u ≡ end_of r → state_of u ≡ record (state_of r) { equation_sections = 1 } → Leads (one terminal.Equations) closed r closed u
+  unfolding adds
+  equations_leads u seen none left end state = word_on terminal.Equations u seen tt (equations_new x.text (state_of r) none) left end (state ∙ ap (λ n. record (state_of r) { equation_sections = n }) (sym (ap (λ n. n + 1) none)))
+
+-- what is seen is the first token
+pub seen_first : (t : Terminal) (xs : List Lexeme) → sees t xs ≡ true → (x : Lexeme) × (rest : List Lexeme) × (xs ≡ x ∷ rest) × (matches t x ≡ true)
+seen_first t [] e = cc
+seen_first t (x ∷ rest) e = (x, rest, refl, e)
+
+-- ---- what is kept of the signature
+
+all_on : {A : Type 0} (test : A → Bool) (xs : List A) (x : A) → list_all test xs ≡ true → test x ≡ true → list_all test (xs ++ x ∷ []) ≡ true
+all_on test [] x h k = rw k refl
+all_on test (y ∷ ys) x h k = let both = and_parts (test y) (list_all test ys) h in and_from (test y) (list_all test (ys ++ x ∷ [])) both.0 (all_on test ys x both.1 k)
+
+pub rules_on : (signature : List Symbol) (rules : List RewriteRule) (rule : RewriteRule) → rules_are_over signature rules ≡ true → pattern_is_over signature rule.left ≡ true → pattern_is_over signature rule.right ≡ true → rules_are_over signature (rules ++ rule ∷ []) ≡ true
+rules_on signature rules rule h l r = all_on (λ (z : RewriteRule). pattern_is_over signature z.left && pattern_is_over signature z.right) rules rule h (rw (l, r) refl)
+
+pub equations_on : (signature : List Symbol) (equations : List RewriteEquation) (equation : RewriteEquation) → equations_are_over signature equations ≡ true → pattern_is_over signature equation.left ≡ true → pattern_is_over signature equation.right ≡ true → equations_are_over signature (equations ++ equation ∷ []) ≡ true
+equations_on signature equations equation h l r = all_on (λ (z : RewriteEquation). pattern_is_over signature z.left && pattern_is_over signature z.right) equations equation h (rw (l, r) refl)
