@@ -15,4 +15,5 @@ pub mod ReaderSides
 pub mod ReaderRules
 pub mod StepsApproximation
 pub mod StepsApproximationNames
+pub mod StepsApproximationRules
 pub mod ReaderApproximation

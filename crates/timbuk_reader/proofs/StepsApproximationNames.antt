@@ -36,6 +36,7 @@ use Rattle.timbuk_reader.proofs.Steps.{one_front}
 use Rattle.timbuk_reader.proofs.StepsTokens.{use_row, row_other, step_on, step_fault, long_row, declared_same}
 use Rattle.timbuk_reader.proofs.StepsLast.{after, leaf_whole, read_after}
 use Rattle.timbuk_reader.proofs.StepsPatterns.{name_quiet}
+use Rattle.timbuk_reader.proofs.ReaderMeanings.{symbol_arity}
 use Rattle.timbuk_reader.proofs.StepsApproximation.{missed_here, leaf_applied}
 
 -- the places of an approximation rule in which no symbol stands
@@ -271,6 +272,10 @@ means_none d text e = rw e refl
 means_head : (d : Declared) (text : Text) (f : ℕ) → number_of d.symbols text ≡ Some f → meaning d place.EntryHead text ≡ a_symbol f (unwrap_or (arity_of d.symbols f) 0)
 unfolding meaning
 means_head d text f e = rw e refl
+
+-- its arity is known
+pub head_arity : (d : Declared) (text : Text) (f : ℕ) → number_of d.symbols text ≡ Some f → arity_of d.symbols f ≡ Some (unwrap_or (arity_of d.symbols f) 0)
+head_arity d text f e = symbol_arity d place.EntryHead text f (unwrap_or (arity_of d.symbols f) 0) (means_head d text f e)
 
 no_nesting : (b : Bool) → (b && nat_le 100 0) ≡ false
 no_nesting true = refl

@@ -166,7 +166,7 @@ impl<'s, 'a> Reader<'s, 'a> {
         ensures ok { IfOk result (λ form. Leads (grammar.name place.EntryAt) (within [] (whole ∷ [])) self.old (entries.formed form) self.new) }
         ensures err { IfErr result (Stops (grammar.name place.EntryAt) (within [] (whole ∷ [])) self.old) }
         ensures form { IfOk result (IsForm self.new) }
-        ensures same { OnOk result (SameBut self.old self.new) }
+        ensures same { OnOk result (state_of self.new ≡ state_of self.old) }
     {
         let at = self.entry_leaf(Place::EntryAt, &[])?;
         self.bind_leaf(at)?;

@@ -12,7 +12,6 @@ mod pattern;
 mod rules;
 mod state;
 mod stubs;
-mod stubs;
 mod symbols;
 
 pub use fault::{LimitName, SpecError, SpecFault, SpecKind};
