@@ -29,7 +29,7 @@ use Rattle.timbuk_reader.proofs.StepsTokens.{use_row, Quiet, not_closed, row_oth
 
 -- ---- a token by what is open
 
-and_false : (b : Bool) → (b && false) ≡ false
+pub and_false : (b : Bool) → (b && false) ≡ false
 and_false true = refl
 and_false false = refl
 

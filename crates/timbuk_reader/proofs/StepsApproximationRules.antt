@@ -1,10 +1,15 @@
 -- The parts of an approximation rule.
-use Rattle.std.proofs.Common.{◌≡◌, ◌≢◌, ℕ, zero, suc, ◌+◌, ◌<◌, ◌≤◌, length, arith, Bool, true, false, List, [], ◌∷◌, ◌++◌, Option, Some, None, Ok, Err, Result, refl, ap, sym, ◌∙◌, subst}
+use Rattle.std.proofs.Common.{◌≡◌, ◌≢◌, ℕ, zero, suc, ◌+◌, ◌<◌, ◌≤◌, length, arith, Bool, true, false, ◌&&◌, cond, List, [], ◌∷◌, ◌++◌, Option, Some, None, Ok, Err, Result, refl, ap, sym, ◌∙◌, subst}
+use Rattle.std.specs.Prelude.{nat_lt, nat_le}
+use Rattle.std.proofs.lemmas.Bool.Decides.{nat_tests}
 use Rattle.ranked_terms.specs.declared.term.Shape.{Shape}
+use Rattle.ranked_terms.specs.declared.term.Shape.TheVariants as shape
 use Rattle.timbuk_lex.specs.declared.lexeme.Lexeme.{Lexeme}
 use Rattle.timbuk_grammar.specs.declared.terminal.Place.{Place}
 use Rattle.timbuk_grammar.specs.declared.terminal.Place.TheVariants as place
+use Rattle.timbuk_grammar.specs.declared.terminal.Terminal.{Terminal}
 use Rattle.timbuk_grammar.specs.declared.terminal.Terminal.TheVariants as terminal
+use Rattle.timbuk_grammar.specs.Matching.{matches}
 use Rattle.timbuk_grammar.specs.Grammar.{Part, one, ◌then◌, many, name, pattern, arguments}
 use Rattle.timbuk_reader.specs.declared.fault.SpecKind.TheVariants as kind
 use Rattle.timbuk_reader.specs.declared.fault.SpecError.{SpecError}
@@ -14,12 +19,16 @@ use Rattle.timbuk_reader.specs.declared.approximation.Form.{Form}
 use Rattle.timbuk_reader.specs.declared.approximation.StartedEntry.{StartedEntry}
 use Rattle.timbuk_reader.specs.declared.approximation.Leaf.{Leaf}
 use Rattle.timbuk_reader.specs.declared.approximation.Leaf.TheVariants as leaves
-use Rattle.timbuk_reader.specs.Declarations.{Declared, Application, any, named, placed}
+use Rattle.timbuk_reader.specs.Declarations.{Declared, Application, any, constant, function, has, with_variable, named, placed, placed_in}
 use Rattle.timbuk_reader.specs.Reading.{End, outcome}
 use Rattle.timbuk_reader.specs.View.{Open, closed, bound_in, declared, inside, state_of, end_of, settled, from, as_error, sees, refusal_at, refusal}
-use Rattle.timbuk_reader.specs.Reads.{Leads, Stops, Reads}
-use Rattle.timbuk_reader.specs.Patterns.{within, IsSpot, Builds, Breaks, SameBut}
-use Rattle.timbuk_reader.specs.ApproximationReads.{formed, miscounts, IsReady, IsBinding, leaf_meaning, leaf_shape, with_leaf, ReadsLeaf, StopsLeaf}
+use Rattle.timbuk_reader.specs.Reads.{Leads, Stops, Reads, IsCalm, Took, Missed}
+use Rattle.timbuk_reader.specs.Patterns.{within, application, IsSpot, Builds, Breaks, SameBut, LacksArguments, LacksArgument, too_few, no_comma, LacksEnd, too_many, no_end}
+use Rattle.timbuk_reader.specs.ApproximationReads.{formed, headed_by, headed, arguing, argued, miscounts, IsReady, IsBinding, leaf_meaning, leaf_shape, with_leaf, with_own, ReadsLeaf, StopsLeaf, AddsArgument, HasArguments}
+use Rattle.timbuk_reader.proofs.Steps.{alike, both_alike, then_head, maybe_skip}
+use Rattle.timbuk_reader.proofs.StepsTokens.{declared_same}
+use Rattle.timbuk_reader.proofs.StepsLast.{after, constant_whole, read_after}
+use Rattle.timbuk_reader.proofs.StepsApproximation.{and_false, more_of, constant_applied, function_bare, arguments_open, argument_next, argument_lacks, argument_exceeds, argument_unmarked, arguments_close}
 
 -- ---- the form in front of the entries
 
@@ -30,12 +39,22 @@ none_miscounts (x ∷ xs) = refl
 pub ready_by : (o : Open) (r : Reader) → o.last ≡ any → o.applications ≡ [] → IsReady o r
 ready_by o r l e = record { last = l; count = ap (λ a. miscounts a r.tokens.now) e ∙ none_miscounts r.tokens.now }
 
--- the form of a right side
-pub whole_leads : (r u : Reader) (s : Shape) → Builds place.EntryWhole 0 r s u → Leads (pattern place.EntryWhole) (within [] []) r (within [] (s ∷ [])) u
-whole_leads r u s h = record { by = λ ps. h.by ps [] [] (record { depth_is = refl; room = tt; first = tt }) }
+-- the form of a right side, where no variable is bound
+module _ (r : Reader) (unbound : r.bound ≡ []) where
+  start : (ps : List Part) → from closed ps r ≡ from (within [] []) ps r
+  start ps = ap (λ bound. settled (outcome (end_of r) ps (record (declared closed r) { bound = bound }) r.tokens.now)) (sym unbound)
 
-pub whole_stops : (r : Reader) (e : SpecError) → Breaks place.EntryWhole 0 r e → Stops (pattern place.EntryWhole) (within [] []) r e
-whole_stops r e h = record { by = λ ne ps. h.by ne ps [] [] (record { depth_is = refl; room = tt; first = tt }) }
+  spot : IsSpot place.EntryWhole 0 [] []
+  spot = record { depth_is = refl; room = tt; first = tt }
+
+  pub whole_leads : (u : Reader) (s : Shape) → Builds place.EntryWhole 0 r s u → Leads (pattern place.EntryWhole) closed r (within [] (s ∷ [])) u
+  whole_leads u s h = record { by = λ ps. start (pattern place.EntryWhole ∷ ps) ∙ h.by ps [] [] spot }
+
+  pub whole_stops : (e : SpecError) → Breaks place.EntryWhole 0 r e → Stops (pattern place.EntryWhole) closed r e
+  whole_stops e h = record { by = λ ne ps. ap as_error (start (pattern place.EntryWhole ∷ ps)) ∙ h.by ne ps [] [] spot }
+
+pub whole_calm : (s : Shape) → IsCalm (within [] (s ∷ []))
+whole_calm s = record { applications = refl; last = refl }
 
 at_declared : (whole : Shape) (m u : Reader) (l : Leaf) → state_of u ≡ state_of m → u.bound ≡ with_leaf m.bound l
     → record (named place.EntryAt (leaf_meaning l) (declared (within [] (whole ∷ [])) m)) { last = any } ≡ declared (within [] (whole ∷ leaf_shape l ∷ [])) u
@@ -48,3 +67,147 @@ pub at_leads : (r m u : Reader) (form : Form) (l : Leaf) → form.at ≡ leaf_sh
 at_leads r m u form l at h same b t = record { by = λ ps.
     h.by (within [] (form.whole ∷ [])) (ready_by (within [] (form.whole ∷ [])) r refl refl) (record { binds = refl; own_is = refl }) ps
     ∙ (λ i. settled (outcome (sym same.end i) ps ((at_declared form.whole m u l same.state b ∙ ap (λ s. declared (within [] (form.whole ∷ s ∷ [])) u) (sym at)) i) (sym t i))) }
+
+-- ---- one argument
+
+-- the symbol that lacks arguments
+abbrev lacking : StartedEntry → Application
+lacking e = application place.EntryHead e.sym e.arity e.args
+
+room_counts : (a : Application) (xs : List Lexeme) → length a.args < a.arity → sees terminal.CloseParen xs ≡ false → miscounts (a ∷ []) xs ≡ false
+room_counts a [] less e = refl
+room_counts a (x ∷ xs) less e = let few : nat_le a.arity (length a.args) ≡ false = grind (arith, nat_tests) in rw (e, few) (and_false (matches terminal.Comma x))
+
+abbrev argument : Part
+argument = name place.EntryArgument
+
+-- a `)` in place of an argument
+pub argument_closed : (e : StartedEntry) (r : Reader) (x : SpecError) → length e.args < e.arity → sees terminal.CloseParen r.tokens.now ≡ true → x ≡ error.Fault (refusal kind.WrongArity r) → Stops argument (arguing e) r x
+argument_closed e r x less seen told = record { by = λ ne ps.
+    ap (λ z. as_error (settled z)) (argument_lacks argument ps (end_of r) (declared (arguing e) r) (lacking e) [] refl refl (argument ∷ ps) r.tokens.now less seen) ∙ ap Err (sym told) }
+
+module _ (e : StartedEntry) (r : Reader) (less : length e.args < e.arity) (unclosed : sees terminal.CloseParen r.tokens.now ≡ false) where
+  ready : IsReady (arguing e) r
+  ready = record { last = refl; count = room_counts (lacking e) r.tokens.now less unclosed }
+
+  pub argument_stops : (x : SpecError) → StopsLeaf place.EntryArgument e.own r x → Stops argument (arguing e) r x
+  argument_stops x h = h.by (arguing e) ready (record { binds = refl; own_is = refl })
+
+  -- the entry with this argument
+  abbrev with_argument : Reader → Leaf → StartedEntry
+  with_argument u l = record { form = e.form; sym = e.sym; arity = e.arity; args = e.args ++ leaf_shape l ∷ []; own = with_own u.bound l e.own }
+
+  own_by : (b : Bool) (v : ℕ) (d : Declared) (a : Application) → d.applications ≡ a ∷ []
+      → record (placed place.EntryArgument (shape.Var v) (cond b d (record d { own = with_variable d.own v }))) { last = any }
+        ≡ record d { applications = record a { args = a.args ++ shape.Var v ∷ [] } ∷ []; own = cond b d.own (with_variable d.own v); last = any }
+  own_by true v d a k = ap (λ l. record (placed_in l place.EntryArgument (shape.Var v) d) { last = any }) k
+  own_by false v d a k = ap (λ l. record (placed_in l place.EntryArgument (shape.Var v) (record d { own = with_variable d.own v })) { last = any }) k
+
+  argument_declared : (u : Reader) (l : Leaf) → record (named place.EntryArgument (leaf_meaning l) (declared (arguing e) u)) { last = any } ≡ declared (arguing (with_argument u l)) u
+  argument_declared u (leaves.Variable v) = own_by (has u.bound v) v (declared (arguing e) u) (lacking e) refl
+  argument_declared u (leaves.State q) = refl
+
+  same_entry : (u : Reader) (l : Leaf) (f : StartedEntry) → AddsArgument u.bound l e f → with_argument u l ≡ f
+  same_entry u l f h = λ i. record { form = sym h.head.form i; sym = sym h.head.sym i; arity = sym h.head.arity i; args = sym h.args i; own = sym h.own i }
+
+  pub argument_leads : (u : Reader) (l : Leaf) (f : StartedEntry) → ReadsLeaf place.EntryArgument e.own r l u → AddsArgument u.bound l e f → Leads argument (arguing e) r (arguing f) u
+  argument_leads u l f h k = record { by = λ ps.
+      h.by (arguing e) ready (record { binds = refl; own_is = refl }) ps
+      ∙ ap (λ d. settled (outcome (end_of u) ps d u.tokens.now)) (argument_declared u l ∙ ap (λ z. declared (arguing z) u) (same_entry u l f k)) }
+
+-- ---- all arguments
+
+took_on : (t : Terminal) (r m : Reader) (o : Open) (ps : List Part) → (k : Took t r m) → outcome (end_of r) ps (declared o r) r.tokens.now ≡ outcome (end_of m) ps (declared o m) (k.token ∷ m.tokens.now)
+took_on t r m o ps k = λ i. outcome (sym k.end i) ps (sym (declared_same o r m k.state k.bound) i) (k.tokens i)
+
+-- an entry of which no argument was read
+pub record IsBare (e : StartedEntry) : Type 0 where
+  pub args : e.args ≡ []
+  pub own : e.own ≡ []
+
+-- these arguments of the entry were read
+pub record Argues (r : Reader) (e f : StartedEntry) (m : Reader) : Type 0 where
+  pub by : (ps : List Part) → from (headed e) (arguments argument ∷ ps) r ≡ from (arguing f) (more_of argument ∷ ps) m
+
+bare_by : (n : ℕ) (e : StartedEntry) (u : Reader) → e.arity ≡ n → IsBare e → 0 < n
+    → ((declared (headed_by n e) u).last ≡ function) × (record (declared (headed_by n e) u) { last = any } ≡ declared (arguing e) u)
+bare_by zero e u a b pos = absurd (omega arith)
+bare_by (suc n) e u a b pos = (refl, λ i. declared (record (within (application place.EntryHead e.sym (sym a i) (sym b.args i) ∷ []) (e.form.whole ∷ e.form.at ∷ [])) { own = sym b.own i }) u)
+
+none_by : (n : ℕ) (e : StartedEntry) (u : Reader) → IsBare e → n ≡ 0 → ((declared (headed_by n e) u).last ≡ constant) × (record (declared (headed_by n e) u) { last = any } ≡ declared (argued e) u)
+none_by zero e u b z = (refl, λ i. declared (record (within [] (e.form.whole ∷ e.form.at ∷ shape.App e.sym (sym b.args i) ∷ [])) { own = sym b.own i }) u)
+none_by (suc n) e u b z = cc
+
+module _ (e : StartedEntry) (bare : IsBare e) where
+  -- a symbol of arity 0
+  module _ (r : Reader) (none : e.arity ≡ 0) where
+    pub none_stops : (x : SpecError) → HasArguments r x → Stops (arguments argument) (headed e) r x
+    none_stops x h = record { by = λ ne ps.
+        ap (λ z. as_error (settled z)) (constant_applied (arguments argument ∷ ps) (end_of r) (declared (headed e) r) r.tokens.now (none_by e.arity e r bare none).0 h.seen) ∙ ap Err (sym h.told) }
+
+    pub none_leads : sees terminal.OpenParen r.tokens.now ≡ false → Leads (arguments argument) (headed e) r (argued e) r
+    none_leads unseen = record { by = λ ps.
+        let k = none_by e.arity e r bare none in
+        let d = declared (headed e) r in
+        let after_last : after constant d ≡ d = ap (λ l. record d { last = l }) (sym k.0) in
+        ap settled (maybe_skip (one terminal.OpenParen then (argument then more_of argument)) terminal.OpenParen (then_head terminal.OpenParen (argument then more_of argument)) (end_of r) d ps r.tokens.now unseen)
+        ∙ sym (ap (λ z. settled (outcome (end_of r) ps z r.tokens.now)) after_last)
+        ∙ read_after constant constant_whole (end_of r) ps d r.tokens.now unseen
+        ∙ ap (λ z. settled (outcome (end_of r) ps z r.tokens.now)) k.1 }
+
+  -- a symbol of another arity
+  module _ (r : Reader) (some : 0 < e.arity) where
+    pub lacks_first : (x : SpecError) → LacksArguments r x → Stops (arguments argument) (headed e) r x
+    lacks_first x h = record { by = λ ne ps.
+        ap (λ z. as_error (settled z)) (function_bare (arguments argument ∷ ps) (end_of r) (declared (headed e) r) r.tokens.now (bare_by e.arity e r refl bare some).0 h.unseen) ∙ ap Err (sym h.told) }
+
+    opened : (m : Reader) (ps : List Part) → Took terminal.OpenParen r m → from (headed e) (arguments argument ∷ ps) r ≡ from (arguing e) (argument ∷ more_of argument ∷ ps) m
+    opened m ps k =
+        let b = bare_by e.arity e m refl bare some in
+        ap settled (took_on terminal.OpenParen r m (headed e) (arguments argument ∷ ps) k
+        ∙ arguments_open argument ps (end_of m) (declared (headed e) m) k.token m.tokens.now b.0 k.matched
+        ∙ ap (λ z. outcome (end_of m) (argument ∷ more_of argument ∷ ps) z m.tokens.now) b.1)
+
+    pub first_stops : (m : Reader) (x : SpecError) → Took terminal.OpenParen r m → Stops argument (arguing e) m x → Stops (arguments argument) (headed e) r x
+    first_stops m x k h = record { by = λ ne ps. ap as_error (opened m ps k) ∙ h.by ne (more_of argument ∷ ps) }
+
+    pub first_argues : (m u : Reader) (f : StartedEntry) → Took terminal.OpenParen r m → Leads argument (arguing e) m (arguing f) u → Argues r e f u
+    first_argues m u f k h = record { by = λ ps. opened m ps k ∙ h.by (more_of argument ∷ ps) }
+
+-- further arguments
+module _ (r m : Reader) (e f : StartedEntry) (h : Argues r e f m) where
+  module _ (less : length f.args < f.arity) where
+    pub lacks_next : (x : SpecError) → LacksArgument m x → Stops (arguments argument) (headed e) r x
+    lacks_next x (too_few seen told) = record { by = λ ne ps.
+        ap as_error (h.by ps) ∙ ap (λ z. as_error (settled z)) (argument_lacks argument ps (end_of m) (declared (arguing f) m) (lacking f) [] refl refl (more_of argument ∷ ps) m.tokens.now less seen) ∙ ap Err (sym told) }
+    lacks_next x (no_comma unseen k) = record { by = λ ne ps.
+        ap as_error (h.by ps) ∙ ap (λ z. as_error (settled z)) (argument_unmarked argument ps (end_of m) (declared (arguing f) m) (lacking f) [] refl refl m.tokens.now unseen k.unseen) ∙ ap Err (sym k.told) }
+
+    between : (v : Reader) (ps : List Part) → Took terminal.Comma m v → from (headed e) (arguments argument ∷ ps) r ≡ from (arguing f) (argument ∷ many (one terminal.Comma then argument) ∷ one terminal.CloseParen ∷ ps) v
+    between v ps k =
+        h.by ps ∙ ap settled (took_on terminal.Comma m v (arguing f) (more_of argument ∷ ps) k
+        ∙ argument_next argument ps (end_of v) (declared (arguing f) v) (lacking f) [] refl refl k.token v.tokens.now less k.matched)
+
+    pub next_stops : (v : Reader) (x : SpecError) → Took terminal.Comma m v → Stops argument (arguing f) v x → Stops (arguments argument) (headed e) r x
+    next_stops v x k s = record { by = λ ne ps. ap as_error (between v ps k) ∙ s.by ne (many (one terminal.Comma then argument) ∷ one terminal.CloseParen ∷ ps) }
+
+    pub next_argues : (v u : Reader) (g : StartedEntry) → Took terminal.Comma m v → Leads argument (arguing f) v (arguing g) u → Argues r e g u
+    next_argues v u g k l = record { by = λ ps.
+        let qs = many (one terminal.Comma then argument) ∷ one terminal.CloseParen ∷ ps in
+        between v ps k ∙ l.by qs
+        ∙ sym (ap settled (alike (more_of argument ∷ ps) qs (end_of u) (declared (arguing g) u) u.tokens.now (both_alike (many (one terminal.Comma then argument)) (one terminal.CloseParen) ps))) }
+
+  module _ (full : length f.args ≡ f.arity) where
+    all : f.arity ≤ length f.args
+    all = omega arith
+
+    pub lacks_last : (x : SpecError) → LacksEnd m x → Stops (arguments argument) (headed e) r x
+    lacks_last x (too_many seen told) = record { by = λ ne ps.
+        ap as_error (h.by ps) ∙ ap (λ z. as_error (settled z)) (argument_exceeds argument ps (end_of m) (declared (arguing f) m) (lacking f) [] refl refl (more_of argument ∷ ps) m.tokens.now all seen) ∙ ap Err (sym told) }
+    lacks_last x (no_end unseen k) = record { by = λ ne ps.
+        ap as_error (h.by ps) ∙ ap (λ z. as_error (settled z)) (argument_unmarked argument ps (end_of m) (declared (arguing f) m) (lacking f) [] refl refl m.tokens.now k.unseen unseen) ∙ ap Err (sym k.told) }
+
+    pub all_lead : (u : Reader) → Took terminal.CloseParen m u → Leads (arguments argument) (headed e) r (argued f) u
+    all_lead u k = record { by = λ ps.
+        h.by ps ∙ ap settled (took_on terminal.CloseParen m u (arguing f) (more_of argument ∷ ps) k
+        ∙ arguments_close argument ps (end_of u) (declared (arguing f) u) (lacking f) [] refl refl k.token u.tokens.now all k.matched) }

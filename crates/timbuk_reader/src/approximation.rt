@@ -149,8 +149,8 @@ impl<'s, 'a> Reader<'s, 'a> {
         ensures reads { Reads grammar.approximation_rule closed self.old result closed self.new }
         ensures same { OnOk result (self.new.approximations ≡ self.old.approximations) }
     {
-        self.bound = Seq::new(self.alloc);
         self.mark(Terminal::OpenBracket)?;
+        self.bound = Seq::new(self.alloc);
         let whole = self.pattern(Place::EntryWhole, 0)?;
         self.mark(Terminal::Arrow)?;
         let form = self.form(whole)?;
