@@ -78,11 +78,11 @@ binds_on : (p : Place) (a b c : List ℕ) (xs ys : List ℕ) → Binds p a xs b 
 binds_on p a b c [] ys h k = subst (λ z. Binds p z ys c) h k
 binds_on p a b c (x ∷ xs) ys h k = (h.0, binds_on p (with_variable a x) b c xs ys h.1 k)
 
-all_on : {A : Type 0} (test : A → Bool) (xs : List A) (x : A) → list_all test xs ≡ true → test x ≡ true → list_all test (xs ++ x ∷ []) ≡ true
+pub all_on : {A : Type 0} (test : A → Bool) (xs : List A) (x : A) → list_all test xs ≡ true → test x ≡ true → list_all test (xs ++ x ∷ []) ≡ true
 all_on test [] x h k = rw k refl
 all_on test (y ∷ ys) x h k = let both = and_parts (test y) (list_all test ys) h in and_from (test y) (list_all test (ys ++ x ∷ [])) both.0 (all_on test ys x both.1 k)
 
-joined_on : (xs : List (List ℕ)) (x : List ℕ) → joined (xs ++ x ∷ []) ≡ joined xs ++ x
+pub joined_on : (xs : List (List ℕ)) (x : List ℕ) → joined (xs ++ x ∷ []) ≡ joined xs ++ x
 joined_on [] x = append-nil x
 joined_on (y ∷ ys) x = ap (λ z. y ++ z) (joined_on ys x) ∙ sym (append_assoc y (joined ys) x)
 
@@ -119,7 +119,7 @@ module _ (p : Place) (r : Reader) where
         same = same_then r v u at_v k.same;
       }
 
-  symbol_test : (f n : ℕ) → arity_of r.signature f ≡ Some n → is_symbol r.signature f n ≡ true
+  pub symbol_test : (f n : ℕ) → arity_of r.signature f ≡ Some n → is_symbol r.signature f n ≡ true
   symbol_test f n e = ap (is_arity n) e ∙ grind (arith, nat_tests)
 
   pub fits_application : (u v : Reader) (f n : ℕ) (args : List Shape) → arity_of r.signature f ≡ Some n → length args ≡ n → state_of u ≡ state_of r → u.bound ≡ r.bound → end_of u ≡ end_of r → AllFit p u args v → Fits p r (App f args) v

@@ -1,5 +1,5 @@
 -- The parts of an approximation rule.
-use Rattle.std.proofs.Common.{◌≡◌, ◌≢◌, ℕ, zero, suc, ◌+◌, ◌<◌, ◌≤◌, length, arith, Bool, true, false, ◌&&◌, cond, List, [], ◌∷◌, ◌++◌, Option, Some, None, Ok, Err, Result, refl, ap, sym, ◌∙◌, subst}
+use Rattle.std.proofs.Common.{◌≡◌, ◌≢◌, ℕ, zero, suc, ◌+◌, ◌<◌, ◌≤◌, length, arith, Bool, true, false, ◌&&◌, cond, List, [], ◌∷◌, ◌++◌, Option, Some, None, Ok, Err, Result, MatchResult, refl, ap, sym, ◌∙◌, subst}
 use Rattle.std.specs.Prelude.{nat_lt, nat_le}
 use Rattle.std.proofs.lemmas.Bool.Decides.{nat_tests}
 use Rattle.ranked_terms.specs.declared.term.Shape.{Shape}
@@ -24,7 +24,7 @@ use Rattle.timbuk_reader.specs.Reading.{End, outcome}
 use Rattle.timbuk_reader.specs.View.{Open, closed, bound_in, declared, inside, state_of, end_of, settled, from, as_error, sees, refusal_at, refusal}
 use Rattle.timbuk_reader.specs.Reads.{Leads, Stops, Reads, IsCalm, Took, Missed}
 use Rattle.timbuk_reader.specs.Patterns.{within, application, IsSpot, Builds, Breaks, SameBut, LacksArguments, LacksArgument, too_few, no_comma, LacksEnd, too_many, no_end}
-use Rattle.timbuk_reader.specs.ApproximationReads.{formed, headed_by, headed, arguing, argued, miscounts, IsReady, IsBinding, leaf_meaning, leaf_shape, with_leaf, with_own, ReadsLeaf, StopsLeaf, AddsArgument, HasArguments}
+use Rattle.timbuk_reader.specs.ApproximationReads.{formed, headed_by, headed, arguing, argued, miscounts, IsReady, IsBinding, leaf_meaning, leaf_shape, with_leaf, with_own, ReadsLeaf, StopsLeaf, OnlyTokens, SameHead, AddsArgument, HasArguments}
 use Rattle.timbuk_reader.proofs.Steps.{alike, both_alike, then_head, maybe_skip}
 use Rattle.timbuk_reader.proofs.StepsTokens.{declared_same}
 use Rattle.timbuk_reader.proofs.StepsLast.{after, constant_whole, read_after}
@@ -211,3 +211,29 @@ module _ (r m : Reader) (e f : StartedEntry) (h : Argues r e f m) where
     all_lead u k = record { by = λ ps.
         h.by ps ∙ ap settled (took_on terminal.CloseParen m u (arguing f) (more_of argument ∷ ps) k
         ∙ arguments_close argument ps (end_of u) (declared (arguing f) u) (lacking f) [] refl refl k.token u.tokens.now all k.matched) }
+
+-- ---- their results, as they are handed on
+
+pub none_reads : {X : Type 0} (e : StartedEntry) → IsBare e → (r : Reader) → e.arity ≡ 0 → (result : Result X SpecError) → MatchResult result (λ _. sees terminal.OpenParen r.tokens.now ≡ false) (HasArguments r)
+    → Reads (arguments argument) (headed e) r result (argued e) r
+none_reads e bare r none (Ok x) h = none_leads e bare r none h
+none_reads e bare r none (Err x) h = none_stops e bare r none x h
+
+pub last_reads : {X : Type 0} (r m u : Reader) (e f : StartedEntry) → Argues r e f m → length f.args ≡ f.arity → (result : Result X SpecError) → MatchResult result (λ _. Took terminal.CloseParen m u) (LacksEnd m)
+    → Reads (arguments argument) (headed e) r result (argued f) u
+last_reads r m u e f h full (Ok x) k = all_lead r m e f h full u k
+last_reads r m u e f h full (Err x) k = lacks_last r m e f h full x k
+
+-- ---- what stays
+
+pub took_same : (t : Terminal) (r m : Reader) → Took t r m → OnlyTokens r m
+took_same t r m k = record { state = k.state; bound = k.bound }
+
+pub took_shorter : (t : Terminal) (r m : Reader) → Took t r m → length m.tokens.now < length r.tokens.now
+took_shorter t r m k = omega (arith, ap length k.tokens)
+
+pub only_then : (r m u : Reader) → OnlyTokens r m → OnlyTokens m u → OnlyTokens r u
+only_then r m u h k = record { state = k.state ∙ h.state; bound = k.bound ∙ h.bound }
+
+pub head_then : (e f g : StartedEntry) → SameHead e f → SameHead f g → SameHead e g
+head_then e f g h k = record { form = k.form ∙ h.form; sym = k.sym ∙ h.sym; arity = k.arity ∙ h.arity }

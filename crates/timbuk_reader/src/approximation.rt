@@ -1,5 +1,5 @@
 //! Reads approximations.
-ghost use Rattle.std.specs.Prelude.{◌≡◌, ◌≢◌, ◌<◌, ◌≤◌, ◌+◌, ◌∷◌, [], ◌++◌, IfOk, IfErr, OnOk, length};
+ghost use Rattle.std.specs.Prelude.{◌≡◌, ◌≢◌, false, ◌<◌, ◌≤◌, ◌+◌, ◌∷◌, [], ◌++◌, IfOk, IfErr, OnOk, MatchResult, length};
 ghost use Rattle.timbuk_grammar.specs.Grammar as grammar;
 ghost use Rattle.timbuk_grammar.specs.declared.terminal.Place.TheVariants as place;
 ghost use Rattle.timbuk_grammar.specs.declared.terminal.Terminal.TheVariants as terminal;
@@ -331,8 +331,7 @@ impl<'s, 'a> Reader<'s, 'a> {
 
     /// Refuses a `(` behind a symbol of arity 0.
     fn no_arguments(&self) -> Result<(), SpecError>
-        ensures ok { OnOk result (sees terminal.OpenParen self.now.tokens.now ≡ false) }
-        ensures err { IfErr result (HasArguments self.now) }
+        ensures { MatchResult result (λ _. sees terminal.OpenParen self.now.tokens.now ≡ false) (HasArguments self.now) }
     {
         if self.sees(Terminal::OpenParen) {
             return Err(self.refusal(SpecKind::WrongArity));
