@@ -1,11 +1,11 @@
 -- What is kept of the parts of an approximation rule.
-use Rattle.std.proofs.Common.{◌≡◌, ◌≢◌, ℕ, zero, suc, ◌+◌, ◌<◌, ◌≤◌, length, arith, Bool, true, false, not, ◌&&◌, ◌||◌, ◌==◌, cond, List, [], ◌∷◌, ◌++◌, Option, Some, None, Result, Ok, Err, MatchResult, OnOk, refl, ap, sym, ◌∙◌, subst, length-append, ◌⊎◌, inl, inr}
+use Rattle.std.proofs.Common.{◌≡◌, ◌≢◌, ℕ, zero, suc, ◌+◌, ◌<◌, ◌≤◌, length, arith, Bool, true, false, not, ◌&&◌, ◌||◌, ◌==◌, cond, List, [], ◌∷◌, ◌++◌, Option, Some, None, Result, Ok, Err, MatchResult, OnOk, OnErr, refl, ap, sym, ◌∙◌, subst, length-append, ◌⊎◌, inl, inr}
 use Rattle.std.specs.Prelude.{map, fold, nat_lt, nat_le}
 use Rattle.std.specs.List.{list_all, list_any}
 use Rattle.std.proofs.lemmas.Bool.Decides.{nat_tests}
 use Rattle.timbuk_reader.specs.declared.approximation.Leaf.TheVariants as leaf
 use Rattle.timbuk_reader.specs.Declarations.{Declared, has, with_variable}
-use Rattle.timbuk_reader.specs.ApproximationReads.{OnlyTokens, has_room, with_own, with_leaf, leaf_shape, are_among, IsLeaf, IsPart, IsForm, AreArguments, IsStarted, AddsArgument}
+use Rattle.timbuk_reader.specs.ApproximationReads.{OnlyTokens, has_room, with_own, with_leaf, leaf_shape, are_among, IsLeaf, IsPart, IsForm, AreArguments, IsStarted, AddsArgument, node_of, entry_of}
 use Rattle.timbuk_reader.specs.declared.approximation.StartedEntry.{StartedEntry}
 use Rattle.timbuk_reader.specs.declared.approximation.Form.{Form}
 use Rattle.timbuk_reader.specs.declared.approximation.Leaf.{Leaf}
@@ -14,8 +14,9 @@ use Rattle.std.proofs.lemmas.List.{map-append}
 use Rattle.std.proofs.lemmas.List.Folds.{list_any-append, list_all-append}
 use Rattle.ranked_terms.specs.Names.{arity_of}
 use Rattle.ranked_terms.specs.Terms as terms
-use Rattle.ranked_terms.specs.Terms.{joined}
-use Rattle.ta_core.specs.SpecRules.{shape_is_over, shape_is_below, shape_occurrences}
+use Rattle.ranked_terms.specs.Terms.{joined, is_symbol}
+use Rattle.trs_rules.specs.declared.entry.Entry.{Entry}
+use Rattle.ta_core.specs.SpecRules.{shape_is_over, shape_is_below, shape_occurrences, entries_are_over, entries_are_below, entries_are_small, entry_variables}
 use Rattle.ranked_terms.specs.declared.term.Shape.{Shape}
 use Rattle.timbuk_grammar.specs.declared.terminal.Place.{Place}
 use Rattle.timbuk_grammar.specs.declared.terminal.Place.TheVariants as place
@@ -26,7 +27,7 @@ use Rattle.timbuk_reader.specs.declared.fault.SpecError.{SpecError}
 use Rattle.timbuk_reader.specs.Reads.{Took}
 use Rattle.timbuk_reader.specs.Patterns.{Binds, Fits, LacksEnd}
 use Rattle.timbuk_reader.proofs.ReaderNames.{is_some_position}
-use Rattle.timbuk_reader.proofs.ReaderFits.{all_on, joined_on, over_var, over_state, below_var, below_state, occurs_var, occurs_state}
+use Rattle.timbuk_reader.proofs.ReaderFits.{all_on, joined_on, symbol_test, over_var, over_state, over_app, below_var, below_state, below_app, occurs_var, occurs_state, occurs_app}
 
 -- ---- variables
 
@@ -342,3 +343,43 @@ seen_all ws (x ∷ xs) e = let k = and_parts (has ws x) (are_among ws xs) e in a
 -- variables that are all among these are no more than these
 pub firsts_few : (ws xs : List ℕ) → are_among ws xs ≡ true → length (terms.firsts xs) ≤ length ws
 firsts_few ws xs e = let h = firsts_below ws xs [] (seen_all ws xs e) in let k = unseen_few ws in omega arith
+
+-- ---- an entry that is whole
+
+module _ (r : Reader) (e : StartedEntry) (target : ℕ) (h : IsStarted r e) (full : length e.args ≡ e.arity) (below : target < length r.initial.states) where
+  node_over : shape_is_over r.signature (node_of e) ≡ true
+  node_over = over_app r.signature e.sym e.args ∙ and_from (is_symbol r.signature e.sym (length e.args)) (list_all (shape_is_over r.signature) e.args) (ap (is_symbol r.signature e.sym) full ∙ symbol_test place.EntryHead r e.sym e.arity h.arity) h.args.over
+
+  node_below : shape_is_below (length r.initial.states) (node_of e) ≡ true
+  node_below = below_app (length r.initial.states) e.sym e.args ∙ h.args.below
+
+  node_among : are_among (r.bound ++ e.own) (shape_occurrences (node_of e)) ≡ true
+  node_among = ap (are_among (r.bound ++ e.own)) (occurs_app e.sym e.args) ∙ h.args.among
+
+  wider : Holds r.bound (r.bound ++ e.own)
+  wider = record { by = λ v k. has_left r.bound e.own v k }
+
+  few : length (entry_variables (entry_of e target)) ≤ 16
+  few =
+      let whole = among_more r.bound (r.bound ++ e.own) (shape_occurrences e.form.whole) wider h.form.whole.among in
+      let at = among_more r.bound (r.bound ++ e.own) (shape_occurrences e.form.at) wider h.form.at.among in
+      let all = among_append (r.bound ++ e.own) (shape_occurrences e.form.whole) (shape_occurrences e.form.at ++ shape_occurrences (node_of e)) whole
+        (among_append (r.bound ++ e.own) (shape_occurrences e.form.at) (shape_occurrences (node_of e)) at node_among) in
+      let k = firsts_few (r.bound ++ e.own) (shape_occurrences e.form.whole ++ (shape_occurrences e.form.at ++ shape_occurrences (node_of e))) all in
+      let count = length-append r.bound e.own in
+      let small = h.few in
+      omega arith
+
+  pub entry_over : (entries : List Entry) → entries_are_over r.signature entries ≡ true → entries_are_over r.signature (entries ++ entry_of e target ∷ []) ≡ true
+  entry_over entries k = all_on _ entries (entry_of e target) k (rw (h.form.whole.over, h.form.at.over, node_over) refl)
+
+  pub entry_below : (entries : List Entry) → entries_are_below (length r.initial.states) entries ≡ true → entries_are_below (length r.initial.states) (entries ++ entry_of e target ∷ []) ≡ true
+  entry_below entries k = let small : nat_lt target (length r.initial.states) ≡ true = grind (arith, nat_tests) in all_on _ entries (entry_of e target) k (rw (h.form.whole.below, h.form.at.below, node_below, small) refl)
+
+  pub entry_small : (entries : List Entry) → entries_are_small entries ≡ true → entries_are_small (entries ++ entry_of e target ∷ []) ≡ true
+  entry_small entries k = let small : nat_le (length (entry_variables (entry_of e target))) 16 ≡ true = let f = few in grind (arith, nat_tests) in all_on _ entries (entry_of e target) k small
+
+-- what holds of the entries holds with a further one, or where it was not added
+pub pushed : {X E : Type 0} (test : List Entry → Bool) (old new : List Entry) (e : Entry) (result : Result X E) → OnOk result (new ≡ old ++ e ∷ []) → OnErr result (new ≡ old) → test old ≡ true → test (old ++ e ∷ []) ≡ true → test new ≡ true
+pushed test old new e (Ok x) ok err h k = ap test ok ∙ k
+pushed test old new e (Err x) ok err h k = ap test err ∙ h

@@ -10,7 +10,7 @@ use Rattle.timbuk_grammar.specs.declared.terminal.Place.TheVariants as place
 use Rattle.timbuk_grammar.specs.declared.terminal.Terminal.{Terminal}
 use Rattle.timbuk_grammar.specs.declared.terminal.Terminal.TheVariants as terminal
 use Rattle.timbuk_grammar.specs.Matching.{matches}
-use Rattle.timbuk_grammar.specs.Grammar.{Part, one, ◌then◌, many, name, pattern, arguments}
+use Rattle.timbuk_grammar.specs.Grammar.{Part, one, ◌then◌, many, name, pattern, arguments, entry}
 use Rattle.timbuk_reader.specs.declared.fault.SpecKind.TheVariants as kind
 use Rattle.timbuk_reader.specs.declared.fault.SpecError.{SpecError}
 use Rattle.timbuk_reader.specs.declared.fault.SpecError.TheVariants as error
@@ -19,14 +19,14 @@ use Rattle.timbuk_reader.specs.declared.approximation.Form.{Form}
 use Rattle.timbuk_reader.specs.declared.approximation.StartedEntry.{StartedEntry}
 use Rattle.timbuk_reader.specs.declared.approximation.Leaf.{Leaf}
 use Rattle.timbuk_reader.specs.declared.approximation.Leaf.TheVariants as leaves
-use Rattle.timbuk_reader.specs.Declarations.{Declared, Application, any, constant, function, has, with_variable, named, placed, placed_in}
+use Rattle.timbuk_reader.specs.Declarations.{Declared, Application, any, constant, function, a_state, has, with_variable, named, placed, placed_in}
 use Rattle.timbuk_reader.specs.Reading.{End, outcome}
 use Rattle.timbuk_reader.specs.View.{Open, closed, bound_in, declared, inside, state_of, end_of, settled, from, as_error, sees, refusal_at, refusal}
 use Rattle.timbuk_reader.specs.Reads.{Leads, Stops, Reads, IsCalm, Took, Missed}
 use Rattle.timbuk_reader.specs.Patterns.{within, application, IsSpot, Builds, Breaks, SameBut, LacksArguments, LacksArgument, too_few, no_comma, LacksEnd, too_many, no_end}
-use Rattle.timbuk_reader.specs.ApproximationReads.{formed, headed_by, headed, arguing, argued, miscounts, IsReady, IsBinding, leaf_meaning, leaf_shape, with_leaf, with_own, ReadsLeaf, StopsLeaf, OnlyTokens, SameHead, AddsArgument, HasArguments}
-use Rattle.timbuk_reader.proofs.Steps.{alike, both_alike, then_head, maybe_skip}
-use Rattle.timbuk_reader.proofs.StepsTokens.{declared_same}
+use Rattle.timbuk_reader.specs.ApproximationReads.{formed, headed_by, headed, arguing, argued, miscounts, IsReady, IsBinding, leaf_meaning, leaf_shape, with_leaf, with_own, entry_of, ReadsName, StopsName, ReadsLeaf, StopsLeaf, OnlyTokens, OnlyEntries, SameTokens, SameHead, AddsArgument, HasArguments}
+use Rattle.timbuk_reader.proofs.Steps.{Head, alike, both_alike, then_head, maybe_skip, many_take, many_skip, then_leads, then_stops, later_stops}
+use Rattle.timbuk_reader.proofs.StepsTokens.{declared_same, mark_leads, mark_stops}
 use Rattle.timbuk_reader.proofs.StepsLast.{after, constant_whole, read_after}
 use Rattle.timbuk_reader.proofs.StepsApproximation.{and_false, more_of, constant_applied, function_bare, arguments_open, argument_next, argument_lacks, argument_exceeds, argument_unmarked, arguments_close}
 
@@ -237,3 +237,91 @@ only_then r m u h k = record { state = k.state ∙ h.state; bound = k.bound ∙ 
 
 pub head_then : (e f g : StartedEntry) → SameHead e f → SameHead f g → SameHead e g
 head_then e f g h k = record { form = k.form ∙ h.form; sym = k.sym ∙ h.sym; arity = k.arity ∙ h.arity }
+
+-- ---- an entry
+
+pub argued_calm : (e : StartedEntry) → IsCalm (argued e)
+argued_calm e = record { applications = refl; last = refl }
+
+target_declared : (e : StartedEntry) (q : ℕ) (u v : Reader) → v.entries ≡ u.entries ++ entry_of e q ∷ [] → OnlyEntries u v
+    → record (named place.EntryTarget (a_state q) (declared (argued e) u)) { last = any } ≡ declared (formed e.form) v
+target_declared e q u v added only =
+    ap (λ es. record (declared (formed e.form) u) { entries = es }) (sym added)
+    ∙ sym (λ i. inside (formed e.form) (only.bound i) (only.state i))
+
+-- the target of an entry, which was added
+pub target_leads : (e : StartedEntry) (form : Form) (q : ℕ) (r u v : Reader) → e.form ≡ form → ReadsName place.EntryTarget r (a_state q) u → v.entries ≡ u.entries ++ entry_of e q ∷ [] → OnlyEntries u v → SameTokens u v
+    → Leads (name place.EntryTarget) (argued e) r (formed form) v
+target_leads e form q r u v same h added only tokens = record { by = λ ps.
+    h.by (argued e) (ready_by (argued e) r refl refl) ps
+    ∙ (λ i. settled (outcome (sym tokens.end i) ps ((target_declared e q u v added only ∙ ap (λ f. declared (formed f) v) same) i) (sym tokens.tokens i))) }
+
+pub target_fails : (e : StartedEntry) (r : Reader) (x : SpecError) → StopsName place.EntryTarget r x → Stops (name place.EntryTarget) (argued e) r x
+target_fails e r x h = h.by (argued e) (ready_by (argued e) r refl refl)
+
+abbrev behind_arguments : Part
+behind_arguments = one terminal.Arrow then name place.EntryTarget
+
+abbrev behind_head : Part
+behind_head = arguments argument then behind_arguments
+
+-- an entry by its parts
+module _ (form : Form) (r m : Reader) (e : StartedEntry) (head : Leads (name place.EntryHead) (formed form) r (headed e) m) where
+  pub entry_stops_in_arguments : (x : SpecError) → Stops (arguments argument) (headed e) m x → Stops entry (formed form) r x
+  entry_stops_in_arguments x h = later_stops (name place.EntryHead) behind_head (formed form) (headed e) r m x head (then_stops (arguments argument) behind_arguments (headed e) m x h)
+
+  module _ (u : Reader) (f : StartedEntry) (args : Leads (arguments argument) (headed e) m (argued f) u) where
+    pub entry_stops_at_arrow : (x : SpecError) → Missed terminal.Arrow u x → Stops entry (formed form) r x
+    entry_stops_at_arrow x h =
+        later_stops (name place.EntryHead) behind_head (formed form) (headed e) r m x head
+        (later_stops (arguments argument) behind_arguments (headed e) (argued f) m u x args
+        (then_stops (one terminal.Arrow) (name place.EntryTarget) (argued f) u x (mark_stops terminal.Arrow (argued f) u x (argued_calm f) h)))
+
+    module _ (v : Reader) (arrow : Took terminal.Arrow u v) where
+      pub entry_stops_at_target : (x : SpecError) → StopsName place.EntryTarget v x → Stops entry (formed form) r x
+      entry_stops_at_target x h =
+          later_stops (name place.EntryHead) behind_head (formed form) (headed e) r m x head
+          (later_stops (arguments argument) behind_arguments (headed e) (argued f) m u x args
+          (later_stops (one terminal.Arrow) (name place.EntryTarget) (argued f) (argued f) u v x (mark_leads terminal.Arrow (argued f) u v tt (argued_calm f) arrow) (target_fails f v x h)))
+
+      pub entry_leads : (w : Reader) → Leads (name place.EntryTarget) (argued f) v (formed form) w → Leads entry (formed form) r (formed form) w
+      entry_leads w h =
+          then_leads (name place.EntryHead) behind_head (formed form) (headed e) (formed form) r m w head
+          (then_leads (arguments argument) behind_arguments (headed e) (argued f) (formed form) m u w args
+          (then_leads (one terminal.Arrow) (name place.EntryTarget) (argued f) (argued f) (formed form) u v w (mark_leads terminal.Arrow (argued f) u v tt (argued_calm f) arrow) h))
+
+pub entry_stops_at_head : (form : Form) (r : Reader) (x : SpecError) → Stops (name place.EntryHead) (formed form) r x → Stops entry (formed form) r x
+entry_stops_at_head form r x h = then_stops (name place.EntryHead) behind_head (formed form) r x h
+
+-- ---- all entries
+
+abbrev some_entries : Part
+some_entries = entry then many entry
+
+entry_begins : Head entry (terminal.Named place.EntryHead)
+entry_begins = then_head (terminal.Named place.EntryHead) behind_head
+
+-- these entries were read
+pub record Enters (form : Form) (r m : Reader) : Type 0 where
+  pub by : (ps : List Part) → from (formed form) (some_entries ∷ ps) r ≡ from (formed form) (many entry ∷ ps) m
+
+pub enters_first : (form : Form) (r m : Reader) → Leads entry (formed form) r (formed form) m → Enters form r m
+enters_first form r m h = record { by = λ ps.
+    ap settled (alike (some_entries ∷ ps) (entry ∷ many entry ∷ ps) (end_of r) (declared (formed form) r) r.tokens.now (both_alike entry (many entry) ps)) ∙ h.by (many entry ∷ ps) }
+
+module _ (form : Form) (r m : Reader) (h : Enters form r m) where
+  module _ (seen : sees (terminal.Named place.EntryHead) m.tokens.now ≡ true) where
+    further : (ps : List Part) → from (formed form) (some_entries ∷ ps) r ≡ from (formed form) (entry ∷ many entry ∷ ps) m
+    further ps = h.by ps ∙ ap settled (many_take entry (terminal.Named place.EntryHead) entry_begins (end_of m) (declared (formed form) m) ps m.tokens.now seen)
+
+    pub enters_next : (u : Reader) → Leads entry (formed form) m (formed form) u → Enters form r u
+    enters_next u l = record { by = λ ps. further ps ∙ l.by (many entry ∷ ps) }
+
+    pub next_entry_stops : (x : SpecError) → Stops entry (formed form) m x → Stops some_entries (formed form) r x
+    next_entry_stops x s = record { by = λ ne ps. ap as_error (further ps) ∙ s.by ne (many entry ∷ ps) }
+
+  pub entries_lead : sees (terminal.Named place.EntryHead) m.tokens.now ≡ false → Leads some_entries (formed form) r (formed form) m
+  entries_lead unseen = record { by = λ ps. h.by ps ∙ ap settled (many_skip entry (terminal.Named place.EntryHead) entry_begins (end_of m) (declared (formed form) m) ps m.tokens.now unseen) }
+
+pub only_entries_then : (r m u : Reader) → OnlyEntries r m → OnlyEntries m u → OnlyEntries r u
+only_entries_then r m u h k = record { state = k.state ∙ (λ i. record (h.state i) { entries = u.entries }); bound = k.bound ∙ h.bound }
