@@ -16,4 +16,5 @@ pub mod ReaderRules
 pub mod StepsApproximation
 pub mod StepsApproximationNames
 pub mod StepsApproximationRules
+pub mod StepsApproximationSection
 pub mod ReaderApproximation

@@ -117,7 +117,7 @@ module _ (e : StartedEntry) (r : Reader) (less : length e.args < e.arity) (unclo
 
 -- ---- all arguments
 
-took_on : (t : Terminal) (r m : Reader) (o : Open) (ps : List Part) → (k : Took t r m) → outcome (end_of r) ps (declared o r) r.tokens.now ≡ outcome (end_of m) ps (declared o m) (k.token ∷ m.tokens.now)
+pub took_on : (t : Terminal) (r m : Reader) (o : Open) (ps : List Part) → (k : Took t r m) → outcome (end_of r) ps (declared o r) r.tokens.now ≡ outcome (end_of m) ps (declared o m) (k.token ∷ m.tokens.now)
 took_on t r m o ps k = λ i. outcome (sym k.end i) ps (sym (declared_same o r m k.state k.bound) i) (k.tokens i)
 
 -- an entry of which no argument was read
