@@ -1,4 +1,5 @@
 -- Reading the arguments of a pattern, one step at a time.
+use Rattle.std.proofs.Math.Bool.{and-false}
 use Rattle.std.proofs.Common.{◌≡◌, ◌≢◌, ℕ, zero, suc, ◌+◌, ◌<◌, ◌≤◌, length, arith, Bool, true, false, not, ◌&&◌, ◌||◌, List, [], ◌∷◌, ◌++◌, Some, None, Ok, Err, refl, ap, sym, ◌∙◌, subst, length-append}
 use Rattle.std.specs.Prelude.{nat_lt, nat_le}
 use Rattle.std.specs.List.{list_all}
@@ -29,10 +30,6 @@ use Rattle.timbuk_reader.proofs.Steps.{alike, both_alike, one_front, then_head, 
 use Rattle.timbuk_reader.proofs.StepsTokens.{use_row, Quiet, row_other, step_on, step_wrong, step_missed, step_unexpected, step_end, mark_row, mark_adds, declared_same}
 use Rattle.timbuk_reader.proofs.StepsLast.{placed_after}
 use Rattle.timbuk_reader.proofs.ReaderPatterns.{argument_list}
-
-and_no : (b : Bool) → (b && false) ≡ false
-and_no true = refl
-and_no false = refl
 
 -- ---- one mark
 
@@ -103,7 +100,7 @@ module _ (p : Place) (f n : ℕ) (args : List Shape) (applications : List Applic
 
   function_end : (ending : Ending) (ps : List Part) (end : End) → ends_by ending end (pattern_arguments p ∷ ps) named ≡ Err (end_fault ending end)
   unfolding end_row
-  function_end Whole ps end = rw and_no refl
+  function_end Whole ps end = rw and-false refl
   function_end (Stopped why line column) ps end = refl
 
   other_paren : (ps : List Part) (end : End) (xs : List Lexeme) → sees terminal.OpenParen xs ≡ false → outcome end (pattern_arguments p ∷ ps) named xs ≡ Err (refusal_at kind.WrongArity end xs)
@@ -165,48 +162,68 @@ module _ (p : Place) (f n d : ℕ) where
 
   module _ (some : 0 < n) where
     pub first_breaks : (r m : Reader) (e : SpecError) → Took terminal.OpenParen r m → Breaks p (d + 1) m e → Misapplies p f n d r e
-    first_breaks r m e k h = record { by = λ ne ps applications shapes l first.
-        ap as_error (opened r m ps applications shapes k) ∙ h.by ne (behind p ∷ ps) (application p f n [] ∷ applications) shapes (deeper applications [] shapes l some first) }
+    first_breaks r m e k h = record {
+      by = λ ne ps applications shapes l first.
+          ap as_error (opened r m ps applications shapes k) ∙ h.by ne (behind p ∷ ps) (application p f n [] ∷ applications) shapes (deeper applications [] shapes l some first);
+    }
 
     pub first_builds : (r m u : Reader) (s : Shape) → Took terminal.OpenParen r m → Builds p (d + 1) m s u → Filled p f n d r (s ∷ []) u
-    first_builds r m u s k h = record { by = λ ps applications shapes l first.
-        opened r m ps applications shapes k ∙ h.by (behind p ∷ ps) (application p f n [] ∷ applications) shapes (deeper applications [] shapes l some first) }
+    first_builds r m u s k h = record {
+      by = λ ps applications shapes l first.
+          opened r m ps applications shapes k ∙ h.by (behind p ∷ ps) (application p f n [] ∷ applications) shapes (deeper applications [] shapes l some first);
+    }
 
   pub next_breaks : (r m v : Reader) (args : List Shape) (e : SpecError) → Filled p f n d r args m → length args < n → Took terminal.Comma m v → Breaks p (d + 1) v e → Misapplies p f n d r e
-  next_breaks r m v args e g less k h = record { by = λ ne ps applications shapes l first.
-      ap as_error (g.by ps applications shapes l first ∙ between m v args ps applications shapes less k)
-      ∙ h.by ne (many (one terminal.Comma then pattern p) ∷ one terminal.CloseParen ∷ ps) (application p f n args ∷ applications) shapes (deeper applications args shapes l less first) }
+  next_breaks r m v args e g less k h = record {
+    by = λ ne ps applications shapes l first.
+        ap as_error (g.by ps applications shapes l first ∙ between m v args ps applications shapes less k)
+        ∙ h.by ne (many (one terminal.Comma then pattern p) ∷ one terminal.CloseParen ∷ ps) (application p f n args ∷ applications) shapes (deeper applications args shapes l less first);
+  }
 
   pub next_builds : (r m v u : Reader) (args : List Shape) (s : Shape) → Filled p f n d r args m → length args < n → Took terminal.Comma m v → Builds p (d + 1) v s u → Filled p f n d r (args ++ s ∷ []) u
-  next_builds r m v u args s g less k h = record { by = λ ps applications shapes l first.
-      let qs = many (one terminal.Comma then pattern p) ∷ one terminal.CloseParen ∷ ps in
-      g.by ps applications shapes l first ∙ between m v args ps applications shapes less k
-      ∙ h.by qs (application p f n args ∷ applications) shapes (deeper applications args shapes l less first)
-      ∙ sym (ap settled (alike (behind p ∷ ps) qs (end_of u) (declared (inner applications (args ++ s ∷ []) shapes) u) u.tokens.now (both_alike (many (one terminal.Comma then pattern p)) (one terminal.CloseParen) ps))) }
+  next_builds r m v u args s g less k h = record {
+    by = λ ps applications shapes l first.
+        let qs = many (one terminal.Comma then pattern p) ∷ one terminal.CloseParen ∷ ps in
+        g.by ps applications shapes l first ∙ between m v args ps applications shapes less k
+        ∙ h.by qs (application p f n args ∷ applications) shapes (deeper applications args shapes l less first)
+        ∙ sym (ap settled (alike (behind p ∷ ps) qs (end_of u) (declared (inner applications (args ++ s ∷ []) shapes) u) u.tokens.now (both_alike (many (one terminal.Comma then pattern p)) (one terminal.CloseParen) ps)));
+  }
 
   pub all_applied : (r m u : Reader) (args : List Shape) → Filled p f n d r args m → length args ≡ n → Took terminal.CloseParen m u → Applies p f n d r args u
-  all_applied r m u args g full k = record { by = λ ps applications shapes l first.
-      g.by ps applications shapes l first
-      ∙ ap settled (took_run terminal.CloseParen m u (inner applications args shapes) (behind p ∷ ps) k
-      ∙ close_on p f n args applications shapes u ps (end_of u) k.token u.tokens.now full k.matched) }
+  all_applied r m u args g full k = record {
+    by = λ ps applications shapes l first.
+        g.by ps applications shapes l first
+        ∙ ap settled (took_run terminal.CloseParen m u (inner applications args shapes) (behind p ∷ ps) k
+        ∙ close_on p f n args applications shapes u ps (end_of u) k.token u.tokens.now full k.matched);
+  }
 
   -- ---- other tokens
 
   pub lacks_first : (r : Reader) (e : SpecError) → LacksArguments r e → Misapplies p f n d r e
-  lacks_first r e h = record { by = λ ne ps applications shapes l first.
-      ap (λ z. as_error (settled z)) (other_paren p f n [] applications shapes r ps (end_of r) r.tokens.now h.unseen) ∙ ap Err (sym h.told) }
+  lacks_first r e h = record {
+    by = λ ne ps applications shapes l first.
+        ap (λ z. as_error (settled z)) (other_paren p f n [] applications shapes r ps (end_of r) r.tokens.now h.unseen) ∙ ap Err (sym h.told);
+  }
 
   pub lacks_next : (r m : Reader) (args : List Shape) (e : SpecError) → Filled p f n d r args m → length args < n → LacksArgument m e → Misapplies p f n d r e
-  lacks_next r m args e g less (too_few seen told) = record { by = λ ne ps applications shapes l first.
-      ap as_error (g.by ps applications shapes l first) ∙ ap (λ z. as_error (settled z)) (early_close p f n args applications shapes m (behind p ∷ ps) (end_of m) m.tokens.now less seen) ∙ ap Err (sym told) }
-  lacks_next r m args e g less (no_comma unseen k) = record { by = λ ne ps applications shapes l first.
-      ap as_error (g.by ps applications shapes l first) ∙ ap (λ z. as_error (settled z)) (other_mark p f n args applications shapes m ps (end_of m) m.tokens.now unseen k.unseen) ∙ ap Err (sym k.told) }
+  lacks_next r m args e g less (too_few seen told) = record {
+    by = λ ne ps applications shapes l first.
+        ap as_error (g.by ps applications shapes l first) ∙ ap (λ z. as_error (settled z)) (early_close p f n args applications shapes m (behind p ∷ ps) (end_of m) m.tokens.now less seen) ∙ ap Err (sym told);
+  }
+  lacks_next r m args e g less (no_comma unseen k) = record {
+    by = λ ne ps applications shapes l first.
+        ap as_error (g.by ps applications shapes l first) ∙ ap (λ z. as_error (settled z)) (other_mark p f n args applications shapes m ps (end_of m) m.tokens.now unseen k.unseen) ∙ ap Err (sym k.told);
+  }
 
   pub lacks_last : (r m : Reader) (args : List Shape) (e : SpecError) → Filled p f n d r args m → length args ≡ n → LacksEnd m e → Misapplies p f n d r e
-  lacks_last r m args e g full (too_many seen told) = record { by = λ ne ps applications shapes l first.
-      ap as_error (g.by ps applications shapes l first) ∙ ap (λ z. as_error (settled z)) (late_comma p f n args applications shapes m (behind p ∷ ps) (end_of m) m.tokens.now full seen) ∙ ap Err (sym told) }
-  lacks_last r m args e g full (no_end unseen k) = record { by = λ ne ps applications shapes l first.
-      ap as_error (g.by ps applications shapes l first) ∙ ap (λ z. as_error (settled z)) (other_mark p f n args applications shapes m ps (end_of m) m.tokens.now k.unseen unseen) ∙ ap Err (sym k.told) }
+  lacks_last r m args e g full (too_many seen told) = record {
+    by = λ ne ps applications shapes l first.
+        ap as_error (g.by ps applications shapes l first) ∙ ap (λ z. as_error (settled z)) (late_comma p f n args applications shapes m (behind p ∷ ps) (end_of m) m.tokens.now full seen) ∙ ap Err (sym told);
+  }
+  lacks_last r m args e g full (no_end unseen k) = record {
+    by = λ ne ps applications shapes l first.
+        ap as_error (g.by ps applications shapes l first) ∙ ap (λ z. as_error (settled z)) (other_mark p f n args applications shapes m ps (end_of m) m.tokens.now k.unseen unseen) ∙ ap Err (sym k.told);
+  }
 
 -- a token fewer is left
 pub took_less : (t : Terminal) (r m : Reader) → Took t r m → Shorter r m

@@ -1,5 +1,6 @@
 -- What is known of a shape that was read.
-use Rattle.std.proofs.Common.{◌≡◌, ℕ, zero, suc, ◌+◌, ◌<◌, length, Bool, true, false, ◌&&◌, ◌==◌, IsTrue, List, [], ◌∷◌, ◌++◌, map, Option, Some, None, cond, refl, ap, sym, ◌∙◌, subst, arith, append_assoc}
+use Rattle.std.proofs.Math.Bool.{and-false}
+use Rattle.std.proofs.Common.{◌≡◌, ℕ, zero, suc, ◌+◌, ◌<◌, length, get_or, Bool, true, false, ◌&&◌, ◌==◌, IsTrue, List, [], ◌∷◌, ◌++◌, map, Option, Some, None, cond, refl, ap, sym, ◌∙◌, subst, arith, append_assoc}
 use Rattle.std.specs.Prelude.{nat_lt, not}
 use Rattle.std.specs.List.{list_all}
 use Rattle.std.proofs.lemmas.Bool.{and_parts, and_from}
@@ -24,7 +25,8 @@ use Rattle.timbuk_reader.specs.Patterns.{IsPatternPlace, pattern_fault, misuse, 
 
 -- ---- shapes
 
-each_test : {A : Type 0} (p : A → Bool) (xs : List A) → list_all (λ b. b) (map p xs) ≡ list_all p xs
+-- a test of each element
+pub each_test : {A : Type 0} (p : A → Bool) (xs : List A) → list_all (λ b. b) (map p xs) ≡ list_all p xs
 each_test p [] = refl
 each_test p (x ∷ xs) = ap (λ b. p x && b) (each_test p xs)
 
@@ -78,6 +80,7 @@ binds_on : (p : Place) (a b c : List ℕ) (xs ys : List ℕ) → Binds p a xs b 
 binds_on p a b c [] ys h k = subst (λ z. Binds p z ys c) h k
 binds_on p a b c (x ∷ xs) ys h k = (h.0, binds_on p (with_variable a x) b c xs ys h.1 k)
 
+-- a test that one more element passes
 pub all_on : {A : Type 0} (test : A → Bool) (xs : List A) (x : A) → list_all test xs ≡ true → test x ≡ true → list_all test (xs ++ x ∷ []) ≡ true
 all_on test [] x h k = rw k refl
 all_on test (y ∷ ys) x h k = let both = and_parts (test y) (list_all test ys) h in and_from (test y) (list_all test (ys ++ x ∷ [])) both.0 (all_on test ys x both.1 k)
@@ -115,7 +118,7 @@ module _ (p : Place) (r : Reader) where
         over = all_on (shape_is_over r.signature) args s h.over (subst (λ z. shape_is_over z s ≡ true) (same_signature r v at_v) k.over);
         below = all_on (shape_is_below (state_count p r)) args s h.below (subst (λ z. shape_is_below z s ≡ true) (same_count p r v at_v) k.below);
         binds = subst (λ z. Binds p r.bound z u.bound) (sym (ap joined (map-append shape_occurrences args (s ∷ [])) ∙ joined_on (map shape_occurrences args) (shape_occurrences s)))
-          (binds_on p r.bound m.bound u.bound (joined (map shape_occurrences args)) (shape_occurrences s) h.binds (subst (λ z. Binds p z (shape_occurrences s) u.bound) bound k.binds));
+            (binds_on p r.bound m.bound u.bound (joined (map shape_occurrences args)) (shape_occurrences s) h.binds (subst (λ z. Binds p z (shape_occurrences s) u.bound) bound k.binds));
         same = same_then r v u at_v k.same;
       }
 
@@ -166,3 +169,15 @@ counted place.RightSide r q h b = b
 counted place.EquationLeft r q h b = b
 counted place.EquationRight r q h b = b
 counted _ r q h b = absurd h
+
+-- ---- parts of a shape
+
+fails_at : {A : Type 0} (test : A → Bool) (xs : List A) (i : ℕ) (x : A) → i < length xs → x ≡ get_or xs i x → test x ≡ false → list_all test xs ≡ false
+fails_at test [] i x lt e h = absurd (omega arith)
+fails_at test (y ∷ ys) zero x lt e h = ap (λ b. b && list_all test ys) (ap test (sym e) ∙ h)
+fails_at test (y ∷ ys) (suc i) x lt e h = ap (λ b. test y && b) (fails_at test ys i x (omega arith) e h) ∙ and-false (test y)
+
+-- a shape has the states of its arguments
+pub not_below : (bound f : ℕ) (args items : List Shape) (s : Shape) (i : ℕ) (x : Shape) → s ≡ App f args → items ≡ args → i < length items → x ≡ get_or items i x → shape_is_below bound x ≡ false → shape_is_below bound s ≡ false
+not_below bound f args items s i x is same lt e h =
+    ap (shape_is_below bound) is ∙ below_app bound f args ∙ sym (ap (list_all (shape_is_below bound)) same) ∙ fails_at (shape_is_below bound) items i x lt e h

@@ -41,36 +41,44 @@ module _ (p : Place) (pattern_place : IsPatternPlace p) (r : Reader) (depth : �
       let d = declared (within applications shapes) r in
       let rest : stands.rest ≡ u.tokens.now = let e = sym stands.tokens ∙ tokens in cc in
       let row = row_other (terminal.Named p) d stands.token tt stands.matched (name_quiet p stands.token stands.matched d refl)
-          ∙ ap (λ z. use_row (terminal.Named p) z d) stands.text_is ∙ fault_row r depth applications shapes spot.depth_is p text m pattern_place spot.first stands.short is ∙ none in
+      ∙ ap (λ z. use_row (terminal.Named p) z d) stands.text_is ∙ fault_row r depth applications shapes spot.depth_is p text m pattern_place spot.first stands.short is ∙ none in
       ap (outcome (end_of r) (pattern p ∷ ps) d) stands.tokens
       ∙ step_on (pattern p ∷ ps) (terminal.Named p) (pattern_arguments p ∷ ps) (end_of r) d stands.token stands.rest (pattern_front p ps) stands.matched row
       ∙ (λ i. outcome (sym end i) (pattern_arguments p ∷ ps) ((adds_named p stands.token.text d pattern_place ∙ ap (λ z. named p (meaning d p z) d) stands.text_is ∙ ap (λ z. named p z d) (meaning_is r depth applications shapes spot.depth_is p text pattern_place ∙ is)) i) (rest i))
 
   -- a name that a row fits
   pub name_breaks : (text : Text) (m : Meaning) (k : SpecKind) (e : SpecError) → Stands (terminal.Named p) r text → meaning (state_of r) p text ≡ m → pattern_fault p m depth r ≡ Some k → e ≡ error.Fault (refusal k r) → Breaks p depth r e
-  name_breaks text m k e stands is some told = record { by = λ ne ps applications shapes spot.
-      let d = declared (within applications shapes) r in
-      let row = row_other (terminal.Named p) d stands.token tt stands.matched (name_quiet p stands.token stands.matched d refl)
-          ∙ ap (λ z. use_row (terminal.Named p) z d) stands.text_is ∙ fault_row r depth applications shapes spot.depth_is p text m pattern_place spot.first stands.short is ∙ some in
-      ap (λ z. as_error (settled z)) (ap (outcome (end_of r) (pattern p ∷ ps) d) stands.tokens
+  name_breaks text m k e stands is some told = record {
+    by = λ ne ps applications shapes spot.
+        let d = declared (within applications shapes) r in
+        let row = row_other (terminal.Named p) d stands.token tt stands.matched (name_quiet p stands.token stands.matched d refl)
+        ∙ ap (λ z. use_row (terminal.Named p) z d) stands.text_is ∙ fault_row r depth applications shapes spot.depth_is p text m pattern_place spot.first stands.short is ∙ some in
+        ap (λ z. as_error (settled z)) (ap (outcome (end_of r) (pattern p ∷ ps) d) stands.tokens
         ∙ step_fault (pattern p ∷ ps) (terminal.Named p) (pattern_arguments p ∷ ps) (end_of r) d stands.token stands.rest k (pattern_front p ps) stands.matched row
-        ∙ ap (λ xs. Err (refusal_at k (end_of r) xs)) (sym stands.tokens)) ∙ ap Err (sym told) }
+        ∙ ap (λ xs. Err (refusal_at k (end_of r) xs)) (sym stands.tokens)) ∙ ap Err (sym told);
+  }
 
   -- no name
   pub no_name_breaks : (e : SpecError) → HasNoWord (terminal.Named p) r e → (0 < depth → sees terminal.CloseParen r.tokens.now ≡ false) → Breaks p depth r e
-  no_name_breaks e (missed m) c = record { by = λ ne ps applications shapes spot.
-      ap (λ z. as_error (settled z)) (pattern_missed p ps (end_of r) (declared (within applications shapes) r) r.tokens.now refl spot.room m.unseen (λ h. c (subst (λ n. 0 < n) spot.depth_is h))) ∙ ap Err (sym m.told) }
-  no_name_breaks e (long l told) c = record { by = λ ne ps applications shapes spot.
-      let d = declared (within applications shapes) r in
-      let row = row_other (terminal.Named p) d l.token tt l.matched (name_quiet p l.token l.matched d refl) ∙ long_row (terminal.Named p) l.token.text d tt l.long in
-      ap (λ z. as_error (settled z)) (ap (outcome (end_of r) (pattern p ∷ ps) d) l.tokens
+  no_name_breaks e (missed m) c = record {
+    by = λ ne ps applications shapes spot.
+        ap (λ z. as_error (settled z)) (pattern_missed p ps (end_of r) (declared (within applications shapes) r) r.tokens.now refl spot.room m.unseen (λ h. c (subst (λ n. 0 < n) spot.depth_is h))) ∙ ap Err (sym m.told);
+  }
+  no_name_breaks e (long l told) c = record {
+    by = λ ne ps applications shapes spot.
+        let d = declared (within applications shapes) r in
+        let row = row_other (terminal.Named p) d l.token tt l.matched (name_quiet p l.token l.matched d refl) ∙ long_row (terminal.Named p) l.token.text d tt l.long in
+        ap (λ z. as_error (settled z)) (ap (outcome (end_of r) (pattern p ∷ ps) d) l.tokens
         ∙ step_fault (pattern p ∷ ps) (terminal.Named p) (pattern_arguments p ∷ ps) (end_of r) d l.token l.rest (kind.Limit limit.NameBytes) (pattern_front p ps) l.matched row
-        ∙ ap (λ xs. Err (refusal_at (kind.Limit limit.NameBytes) (end_of r) xs)) (sym l.tokens)) ∙ ap Err (sym told) }
+        ∙ ap (λ xs. Err (refusal_at (kind.Limit limit.NameBytes) (end_of r) xs)) (sym l.tokens)) ∙ ap Err (sym told);
+  }
 
   -- a `)` that comes too early
   pub close_breaks : (e : SpecError) → 0 < depth → sees terminal.CloseParen r.tokens.now ≡ true → e ≡ error.Fault (refusal kind.WrongArity r) → Breaks p depth r e
-  close_breaks e h seen told = record { by = λ ne ps applications shapes spot.
-      ap (λ z. as_error (settled z)) (pattern_closed p ps (end_of r) (declared (within applications shapes) r) r.tokens.now refl spot.room (subst (λ n. 0 < n) (sym spot.depth_is) h) seen) ∙ ap Err (sym told) }
+  close_breaks e h seen told = record {
+    by = λ ne ps applications shapes spot.
+        ap (λ z. as_error (settled z)) (pattern_closed p ps (end_of r) (declared (within applications shapes) r) r.tokens.now refl spot.room (subst (λ n. 0 < n) (sym spot.depth_is) h) seen) ∙ ap Err (sym told);
+  }
 
 -- ---- behind a name without arguments
 
@@ -129,12 +137,14 @@ module _ (p : Place) (pattern_place : IsPatternPlace p) (r u : Reader) (depth : 
 
   -- a variable
   pub variable_builds : (v : ℕ) → meaning (state_of r) p text ≡ a_variable v → pattern_fault p (a_variable v) depth r ≡ None → u.bound ≡ with_variable r.bound v → sees terminal.OpenParen u.tokens.now ≡ false → Builds p depth r (shape.Var v) u
-  variable_builds v is none bound e = record { by = λ ps applications shapes spot.
-      let d = declared (within applications shapes) r in
-      let bound_d : binds p v d ≡ declared (within applications shapes) u = binds_is p v d pattern_place ∙ ap (λ b. record d { bound = b }) (sym bound) ∙ sym (same_but applications shapes r u same) in
-      ap settled (read (a_variable v) is none ps applications shapes spot)
-      ∙ whole_read p leaf leaf_whole ps (end_of u) (placed p (shape.Var v) (binds p v d)) u.tokens.now e
-      ∙ ap (λ z. settled (outcome (end_of u) ps (after any (placed p (shape.Var v) z)) u.tokens.now)) bound_d }
+  variable_builds v is none bound e = record {
+    by = λ ps applications shapes spot.
+        let d = declared (within applications shapes) r in
+        let bound_d : binds p v d ≡ declared (within applications shapes) u = binds_is p v d pattern_place ∙ ap (λ b. record d { bound = b }) (sym bound) ∙ sym (same_but applications shapes r u same) in
+        ap settled (read (a_variable v) is none ps applications shapes spot)
+        ∙ whole_read p leaf leaf_whole ps (end_of u) (placed p (shape.Var v) (binds p v d)) u.tokens.now e
+        ∙ ap (λ z. settled (outcome (end_of u) ps (after any (placed p (shape.Var v) z)) u.tokens.now)) bound_d;
+  }
 
   module _ (still : u.bound ≡ r.bound) where
     same_d : (o : Open) → declared o r ≡ declared o u
@@ -142,19 +152,23 @@ module _ (p : Place) (pattern_place : IsPatternPlace p) (r u : Reader) (depth : 
 
     -- a state
     pub state_builds : (q : ℕ) → meaning (state_of r) p text ≡ a_state q → pattern_fault p (a_state q) depth r ≡ None → sees terminal.OpenParen u.tokens.now ≡ false → Builds p depth r (shape.State q) u
-    state_builds q is none e = record { by = λ ps applications shapes spot.
-        let d = declared (within applications shapes) r in
-        ap settled (read (a_state q) is none ps applications shapes spot)
-        ∙ whole_read p leaf leaf_whole ps (end_of u) (uses p q (placed p (shape.State q) d)) u.tokens.now e
-        ∙ ap (λ z. settled (outcome (end_of u) ps (after any z) u.tokens.now)) (uses_is p q (placed p (shape.State q) d) pattern_place ∙ ap (placed p (shape.State q)) (same_d (within applications shapes))) }
+    state_builds q is none e = record {
+      by = λ ps applications shapes spot.
+          let d = declared (within applications shapes) r in
+          ap settled (read (a_state q) is none ps applications shapes spot)
+          ∙ whole_read p leaf leaf_whole ps (end_of u) (uses p q (placed p (shape.State q) d)) u.tokens.now e
+          ∙ ap (λ z. settled (outcome (end_of u) ps (after any z) u.tokens.now)) (uses_is p q (placed p (shape.State q) d) pattern_place ∙ ap (placed p (shape.State q)) (same_d (within applications shapes)));
+    }
 
     -- a symbol without arguments
     pub constant_builds : (f : ℕ) → meaning (state_of r) p text ≡ a_symbol f zero → pattern_fault p (a_symbol f zero) depth r ≡ None → sees terminal.OpenParen u.tokens.now ≡ false → Builds p depth r (shape.App f []) u
-    constant_builds f is none e = record { by = λ ps applications shapes spot.
-        let d = declared (within applications shapes) r in
-        ap settled (read (a_symbol f zero) is none ps applications shapes spot)
-        ∙ whole_read p constant constant_whole ps (end_of u) (placed p (shape.App f []) (begins_transition p f d)) u.tokens.now e
-        ∙ ap (λ z. settled (outcome (end_of u) ps (after any (placed p (shape.App f []) z)) u.tokens.now)) (begins_is p f d pattern_place ∙ same_d (within applications shapes)) }
+    constant_builds f is none e = record {
+      by = λ ps applications shapes spot.
+          let d = declared (within applications shapes) r in
+          ap settled (read (a_symbol f zero) is none ps applications shapes spot)
+          ∙ whole_read p constant constant_whole ps (end_of u) (placed p (shape.App f []) (begins_transition p f d)) u.tokens.now e
+          ∙ ap (λ z. settled (outcome (end_of u) ps (after any (placed p (shape.App f []) z)) u.tokens.now)) (begins_is p f d pattern_place ∙ same_d (within applications shapes));
+    }
 
     applied_d : (f n : ℕ) (applications : List Application) (shapes : List Shape) → named p (a_symbol f (suc n)) (declared (within applications shapes) r) ≡ declared (record (within (application p f (suc n) [] ∷ applications) shapes) { last = function }) u
     applied_d f n applications shapes =
@@ -164,27 +178,37 @@ module _ (p : Place) (pattern_place : IsPatternPlace p) (r u : Reader) (depth : 
     -- a symbol with its arguments
     pub function_builds : (f n : ℕ) (args : List Shape) (v : Reader) → 0 < n → meaning (state_of r) p text ≡ a_symbol f n → pattern_fault p (a_symbol f n) depth r ≡ None → Applies p f n depth u args v → Builds p depth r (shape.App f args) v
     function_builds f zero args v pos is none h = absurd (omega arith)
-    function_builds f (suc n) args v pos is none h = record { by = λ ps applications shapes spot.
-        ap settled (read (a_symbol f (suc n)) is none ps applications shapes spot)
-        ∙ ap (λ z. settled (outcome (end_of u) (pattern_arguments p ∷ ps) z u.tokens.now)) (applied_d f n applications shapes)
-        ∙ h.by ps applications shapes spot.depth_is spot.first }
+    function_builds f (suc n) args v pos is none h = record {
+      by = λ ps applications shapes spot.
+          ap settled (read (a_symbol f (suc n)) is none ps applications shapes spot)
+          ∙ ap (λ z. settled (outcome (end_of u) (pattern_arguments p ∷ ps) z u.tokens.now)) (applied_d f n applications shapes)
+          ∙ h.by ps applications shapes spot.depth_is spot.first;
+    }
 
     pub function_breaks : (f n : ℕ) (e : SpecError) → 0 < n → meaning (state_of r) p text ≡ a_symbol f n → pattern_fault p (a_symbol f n) depth r ≡ None → Misapplies p f n depth u e → Breaks p depth r e
     function_breaks f zero e pos is none h = absurd (omega arith)
-    function_breaks f (suc n) e pos is none h = record { by = λ ne ps applications shapes spot.
-        ap (λ z. as_error (settled z)) (read (a_symbol f (suc n)) is none ps applications shapes spot
-        ∙ ap (λ z. outcome (end_of u) (pattern_arguments p ∷ ps) z u.tokens.now) (applied_d f n applications shapes))
-        ∙ h.by ne ps applications shapes spot.depth_is spot.first }
+    function_breaks f (suc n) e pos is none h = record {
+      by = λ ne ps applications shapes spot.
+          ap (λ z. as_error (settled z)) (read (a_symbol f (suc n)) is none ps applications shapes spot
+          ∙ ap (λ z. outcome (end_of u) (pattern_arguments p ∷ ps) z u.tokens.now) (applied_d f n applications shapes))
+          ∙ h.by ne ps applications shapes spot.depth_is spot.first;
+    }
 
   -- a `(` behind a variable, a state, or a symbol without arguments
   pub variable_breaks : (v : ℕ) (e : SpecError) → meaning (state_of r) p text ≡ a_variable v → pattern_fault p (a_variable v) depth r ≡ None → sees terminal.OpenParen u.tokens.now ≡ true → e ≡ error.Fault (refusal kind.Expected u) → Breaks p depth r e
-  variable_breaks v e is none seen told = record { by = λ ne ps applications shapes spot.
-      ap (λ z. as_error (settled z)) (read (a_variable v) is none ps applications shapes spot ∙ leaf_paren (pattern_arguments p ∷ ps) (end_of u) (placed p (shape.Var v) (binds p v (declared (within applications shapes) r))) u.tokens.now seen) ∙ ap Err (sym told) }
+  variable_breaks v e is none seen told = record {
+    by = λ ne ps applications shapes spot.
+        ap (λ z. as_error (settled z)) (read (a_variable v) is none ps applications shapes spot ∙ leaf_paren (pattern_arguments p ∷ ps) (end_of u) (placed p (shape.Var v) (binds p v (declared (within applications shapes) r))) u.tokens.now seen) ∙ ap Err (sym told);
+  }
 
   pub state_breaks : (q : ℕ) (e : SpecError) → meaning (state_of r) p text ≡ a_state q → pattern_fault p (a_state q) depth r ≡ None → sees terminal.OpenParen u.tokens.now ≡ true → e ≡ error.Fault (refusal kind.Expected u) → Breaks p depth r e
-  state_breaks q e is none seen told = record { by = λ ne ps applications shapes spot.
-      ap (λ z. as_error (settled z)) (read (a_state q) is none ps applications shapes spot ∙ leaf_paren (pattern_arguments p ∷ ps) (end_of u) (uses p q (placed p (shape.State q) (declared (within applications shapes) r))) u.tokens.now seen) ∙ ap Err (sym told) }
+  state_breaks q e is none seen told = record {
+    by = λ ne ps applications shapes spot.
+        ap (λ z. as_error (settled z)) (read (a_state q) is none ps applications shapes spot ∙ leaf_paren (pattern_arguments p ∷ ps) (end_of u) (uses p q (placed p (shape.State q) (declared (within applications shapes) r))) u.tokens.now seen) ∙ ap Err (sym told);
+  }
 
   pub constant_breaks : (f : ℕ) (e : SpecError) → meaning (state_of r) p text ≡ a_symbol f zero → pattern_fault p (a_symbol f zero) depth r ≡ None → sees terminal.OpenParen u.tokens.now ≡ true → e ≡ error.Fault (refusal kind.WrongArity u) → Breaks p depth r e
-  constant_breaks f e is none seen told = record { by = λ ne ps applications shapes spot.
-      ap (λ z. as_error (settled z)) (read (a_symbol f zero) is none ps applications shapes spot ∙ constant_paren (pattern_arguments p ∷ ps) (end_of u) (placed p (shape.App f []) (begins_transition p f (declared (within applications shapes) r))) u.tokens.now seen) ∙ ap Err (sym told) }
+  constant_breaks f e is none seen told = record {
+    by = λ ne ps applications shapes spot.
+        ap (λ z. as_error (settled z)) (read (a_symbol f zero) is none ps applications shapes spot ∙ constant_paren (pattern_arguments p ∷ ps) (end_of u) (placed p (shape.App f []) (begins_transition p f (declared (within applications shapes) r))) u.tokens.now seen) ∙ ap Err (sym told);
+  }

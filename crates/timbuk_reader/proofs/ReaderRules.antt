@@ -4,6 +4,7 @@ use Rattle.std.specs.Prelude.{option_map, nat_le, fold}
 use Rattle.std.specs.List.{list_all}
 use Rattle.std.proofs.lemmas.Bool.{and_parts, and_from}
 use Rattle.std.proofs.lemmas.Bool.Decides.{nat_tests}
+use Rattle.std.proofs.lemmas.List.{map-append}
 use Rattle.std.proofs.lemmas.Grind.{fold-append}
 use Rattle.ranked_terms.specs.Names.{Symbol}
 use Rattle.ranked_terms.specs.Terms as terms
@@ -20,7 +21,7 @@ use Rattle.timbuk_grammar.specs.declared.terminal.Place.{Place}
 use Rattle.timbuk_grammar.specs.declared.terminal.Place.TheVariants as place
 use Rattle.timbuk_grammar.specs.declared.terminal.Terminal.{Terminal}
 use Rattle.timbuk_grammar.specs.declared.terminal.Terminal.TheVariants as terminal
-use Rattle.timbuk_grammar.specs.Grammar.{Part, one, pattern}
+use Rattle.timbuk_grammar.specs.Grammar.{Part, one, ◌then◌, pattern, rule, equation}
 use Rattle.timbuk_grammar.specs.Matching.{matches}
 use Rattle.timbuk_reader.specs.declared.fault.SpecKind.{SpecKind}
 use Rattle.timbuk_reader.specs.declared.fault.SpecKind.TheVariants as kind
@@ -33,11 +34,12 @@ use Rattle.timbuk_reader.specs.Rows.{passed, misnamed}
 use Rattle.timbuk_reader.specs.Reading.{outcome}
 use Rattle.timbuk_reader.specs.Naming.{shape_of}
 use Rattle.timbuk_reader.specs.View.{Open, closed, declared, state_of, end_of, settled, from, as_error, sees, refusal, refusal_at, rule_shapes, equation_shapes}
-use Rattle.timbuk_reader.specs.Reads.{Leads, Stops, Reads, IsCalm}
+use Rattle.timbuk_reader.specs.Reads.{Leads, Stops, IsCalm, Took, Missed}
 use Rattle.timbuk_reader.specs.Patterns.{within, IsFirstSide, Builds, Breaks, Binds, IsSpot, SameBut}
 use Rattle.timbuk_reader.specs.Sides.{IsSide}
 use Rattle.timbuk_reader.proofs.Steps.{one_front, then_leads, then_stops, later_stops}
-use Rattle.timbuk_reader.proofs.StepsTokens.{IsOther, use_row, row_other, step_on, step_fault, calm_quiet}
+use Rattle.timbuk_reader.proofs.StepsTokens.{IsOther, use_row, row_other, step_on, step_fault, calm_quiet, mark_leads, mark_stops}
+use Rattle.timbuk_reader.proofs.ReaderFits.{all_on}
 use Rattle.timbuk_reader.proofs.ReaderSides.{left_binds, right_binds, binds_firsts, no_variable, same_over}
 
 -- ---- the sides of a declaration
@@ -113,8 +115,8 @@ module _ (left right : Pattern) (r m v u : Reader) (unbound : r.bound ≡ []) (l
   pub few_equated : length (firsts (occurrences left ++ occurrences right)) ≤ 16
   few_equated =
       let first : fold terms.with_variable [] (occurrences left) ≡ m.bound = binds_firsts place.EquationLeft [] (occurrences left) m.bound (subst (λ z. Binds place.EquationLeft z (occurrences left) m.bound) unbound l.binds) in
-      let then : fold terms.with_variable v.bound (occurrences right) ≡ u.bound = binds_firsts place.EquationRight v.bound (occurrences right) u.bound h.binds in
-      let both : firsts (occurrences left ++ occurrences right) ≡ u.bound = fold-append terms.with_variable [] (occurrences left) (occurrences right) ∙ ap (λ z. fold terms.with_variable z (occurrences right)) (first ∙ sym still) ∙ then in
+      let next : fold terms.with_variable v.bound (occurrences right) ≡ u.bound = binds_firsts place.EquationRight v.bound (occurrences right) u.bound h.binds in
+      let both : firsts (occurrences left ++ occurrences right) ≡ u.bound = fold-append terms.with_variable [] (occurrences left) (occurrences right) ∙ ap (λ z. fold terms.with_variable z (occurrences right)) (first ∙ sym still) ∙ next in
       subst (λ z. length z ≤ 16) (sym both) few
 
 -- ---- section words
@@ -137,16 +139,20 @@ equations_new text d h = let e : nat_le 1 d.equation_sections ≡ false = grind 
 
 module _ (r : Reader) (x : Lexeme) (rest : List Lexeme) (tokens : r.tokens.now ≡ x ∷ rest) where
   word_fault : (t : Terminal) (k : SpecKind) (e : SpecError) → matches t x ≡ true → IsOther t → use_row t x.text (state_of r) ≡ Some k → e ≡ error.Fault (refusal k r) → Stops (one t) closed r e
-  word_fault t k e seen other row told = record { by = λ ne ps.
-      ap (λ z. as_error (settled z)) (ap (outcome (end_of r) (one t ∷ ps) (state_of r)) tokens
+  word_fault t k e seen other row told = record {
+    by = λ ne ps.
+        ap (λ z. as_error (settled z)) (ap (outcome (end_of r) (one t ∷ ps) (state_of r)) tokens
         ∙ step_fault (one t ∷ ps) t ps (end_of r) (state_of r) x rest k (one_front t ps) seen (row_other t (state_of r) x other seen (calm_quiet (state_of r) x refl refl) ∙ row)
-        ∙ ap (λ xs. Err (refusal_at k (end_of r) xs)) (sym tokens)) ∙ ap Err (sym told) }
+        ∙ ap (λ xs. Err (refusal_at k (end_of r) xs)) (sym tokens)) ∙ ap Err (sym told);
+  }
 
   word_on : (t : Terminal) (u : Reader) → matches t x ≡ true → IsOther t → use_row t x.text (state_of r) ≡ None → u.tokens.now ≡ rest → end_of u ≡ end_of r → state_of u ≡ adds t x.text (state_of r) → Leads (one t) closed r closed u
-  word_on t u seen other row left end state = record { by = λ ps. ap settled (
-      ap (outcome (end_of r) (one t ∷ ps) (state_of r)) tokens
-      ∙ step_on (one t ∷ ps) t ps (end_of r) (state_of r) x rest (one_front t ps) seen (row_other t (state_of r) x other seen (calm_quiet (state_of r) x refl refl) ∙ row)
-      ∙ (λ i. outcome (sym end i) ps (sym state i) (sym left i))) }
+  word_on t u seen other row left end state = record {
+    by = λ ps. ap settled (
+        ap (outcome (end_of r) (one t ∷ ps) (state_of r)) tokens
+        ∙ step_on (one t ∷ ps) t ps (end_of r) (state_of r) x rest (one_front t ps) seen (row_other t (state_of r) x other seen (calm_quiet (state_of r) x refl refl) ∙ row)
+        ∙ (λ i. outcome (sym end i) ps (sym state i) (sym left i)));
+  }
 
   pub system_stops : (e : SpecError) → matches terminal.Trs x ≡ true → 0 < r.systems → e ≡ error.Fault (refusal (kind.Limit limit.Systems) r) → Stops (one terminal.Trs) closed r e
   system_stops e seen h told = word_fault terminal.Trs (kind.Limit limit.Systems) e seen tt (trs_over x.text (state_of r) h) told
@@ -169,12 +175,74 @@ seen_first t (x ∷ rest) e = (x, rest, refl, e)
 
 -- ---- what is kept of the signature
 
-all_on : {A : Type 0} (test : A → Bool) (xs : List A) (x : A) → list_all test xs ≡ true → test x ≡ true → list_all test (xs ++ x ∷ []) ≡ true
-all_on test [] x h k = rw k refl
-all_on test (y ∷ ys) x h k = let both = and_parts (test y) (list_all test ys) h in and_from (test y) (list_all test (ys ++ x ∷ [])) both.0 (all_on test ys x both.1 k)
+pub rules_on : (signature : List Symbol) (rules : List RewriteRule) (new : RewriteRule) → rules_are_over signature rules ≡ true → pattern_is_over signature new.left ≡ true → pattern_is_over signature new.right ≡ true → rules_are_over signature (rules ++ new ∷ []) ≡ true
+rules_on signature rules new h l r = all_on (λ (z : RewriteRule). pattern_is_over signature z.left && pattern_is_over signature z.right) rules new h (rw (l, r) refl)
 
-pub rules_on : (signature : List Symbol) (rules : List RewriteRule) (rule : RewriteRule) → rules_are_over signature rules ≡ true → pattern_is_over signature rule.left ≡ true → pattern_is_over signature rule.right ≡ true → rules_are_over signature (rules ++ rule ∷ []) ≡ true
-rules_on signature rules rule h l r = all_on (λ (z : RewriteRule). pattern_is_over signature z.left && pattern_is_over signature z.right) rules rule h (rw (l, r) refl)
+pub equations_on : (signature : List Symbol) (equations : List RewriteEquation) (new : RewriteEquation) → equations_are_over signature equations ≡ true → pattern_is_over signature new.left ≡ true → pattern_is_over signature new.right ≡ true → equations_are_over signature (equations ++ new ∷ []) ≡ true
+equations_on signature equations new h l r = all_on (λ (z : RewriteEquation). pattern_is_over signature z.left && pattern_is_over signature z.right) equations new h (rw (l, r) refl)
 
-pub equations_on : (signature : List Symbol) (equations : List RewriteEquation) (equation : RewriteEquation) → equations_are_over signature equations ≡ true → pattern_is_over signature equation.left ≡ true → pattern_is_over signature equation.right ≡ true → equations_are_over signature (equations ++ equation ∷ []) ≡ true
-equations_on signature equations equation h l r = all_on (λ (z : RewriteEquation). pattern_is_over signature z.left && pattern_is_over signature z.right) equations equation h (rw (l, r) refl)
+-- ---- a whole rule, or equation, whose bound variables are cleared first
+
+module _ (r m start : Reader) (same : SameBut r start) (tokens_same : start.tokens.now ≡ r.tokens.now) (unbound : start.bound ≡ []) where
+  cleared : (ps : List Part) → from closed ps r ≡ from closed ps start
+  cleared ps = λ i. settled (outcome (sym same.end i) ps (sym same.state i) (sym tokens_same i))
+
+  from_start : (p : Part) (q : Open) (u : Reader) → Leads p closed start q u → Leads p closed r q u
+  from_start p q u h = record { by = λ ps. cleared (p ∷ ps) ∙ h.by ps }
+
+  stops_start : (p : Part) (e : SpecError) → Stops p closed start e → Stops p closed r e
+  stops_start p e h = record { by = λ ne ps. ap as_error (cleared (p ∷ ps)) ∙ h.by ne ps }
+
+  pub rule_left : (e : SpecError) → Breaks place.LeftSide 0 start e → Stops rule closed r e
+  rule_left e h = stops_start rule e (then_stops (pattern place.LeftSide) (one terminal.Arrow then pattern place.RightSide) closed start e (left_stops start unbound e h))
+
+  pub equation_left : (e : SpecError) → Breaks place.EquationLeft 0 start e → Stops equation closed r e
+  equation_left e h = stops_start equation e (then_stops (pattern place.EquationLeft) (one terminal.Equals then pattern place.EquationRight) closed start e (equated_stops start unbound e h))
+
+  module _ (left : Pattern) (l : IsSide place.LeftSide start left m) where
+    left_read : Leads (pattern place.LeftSide) closed start (within [] (shape_of left ∷ [])) m
+    left_read = left_leads start unbound (shape_of left) m l.builds
+
+    pub rule_arrow : (e : SpecError) → Missed terminal.Arrow m e → Stops rule closed r e
+    rule_arrow e h = stops_start rule e (later_stops (pattern place.LeftSide) (one terminal.Arrow then pattern place.RightSide) closed (within [] (shape_of left ∷ [])) start m e left_read
+        (then_stops (one terminal.Arrow) (pattern place.RightSide) (within [] (shape_of left ∷ [])) m e (mark_stops terminal.Arrow (within [] (shape_of left ∷ [])) m e (side_calm (shape_of left)) h)))
+
+    module _ (v : Reader) (k : Took terminal.Arrow m v) where
+      arrow_read : Leads (one terminal.Arrow) (within [] (shape_of left ∷ [])) m (within [] (shape_of left ∷ [])) v
+      arrow_read = mark_leads terminal.Arrow (within [] (shape_of left ∷ [])) m v tt (side_calm (shape_of left)) k
+
+      pub rule_right : (e : SpecError) → Breaks place.RightSide 0 v e → Stops rule closed r e
+      rule_right e h = stops_start rule e (later_stops (pattern place.LeftSide) (one terminal.Arrow then pattern place.RightSide) closed (within [] (shape_of left ∷ [])) start m e left_read
+          (later_stops (one terminal.Arrow) (pattern place.RightSide) (within [] (shape_of left ∷ [])) (within [] (shape_of left ∷ [])) m v e arrow_read (right_stops (shape_of left) v e h)))
+
+      pub rule_whole : (right : Pattern) (u w : Reader) → IsSide place.RightSide v right u → state_of w ≡ record (state_of u) { rules = (state_of u).rules ++ (shape_of left, shape_of right) ∷ [] } → end_of w ≡ end_of u → w.tokens.now ≡ u.tokens.now → Leads rule closed r closed w
+      rule_whole right u w h state end tokens = from_start rule closed w (then_leads (pattern place.LeftSide) (one terminal.Arrow then pattern place.RightSide) closed (within [] (shape_of left ∷ [])) closed start m w left_read
+          (then_leads (one terminal.Arrow) (pattern place.RightSide) (within [] (shape_of left ∷ [])) (within [] (shape_of left ∷ [])) closed m v w arrow_read (right_leads (shape_of left) (shape_of right) v u w h.builds state end tokens)))
+
+  module _ (left : Pattern) (l : IsSide place.EquationLeft start left m) where
+    equated_read : Leads (pattern place.EquationLeft) closed start (within [] (shape_of left ∷ [])) m
+    equated_read = equated_leads start unbound (shape_of left) m l.builds
+
+    pub equation_mark : (e : SpecError) → Missed terminal.Equals m e → Stops equation closed r e
+    equation_mark e h = stops_start equation e (later_stops (pattern place.EquationLeft) (one terminal.Equals then pattern place.EquationRight) closed (within [] (shape_of left ∷ [])) start m e equated_read
+        (then_stops (one terminal.Equals) (pattern place.EquationRight) (within [] (shape_of left ∷ [])) m e (mark_stops terminal.Equals (within [] (shape_of left ∷ [])) m e (side_calm (shape_of left)) h)))
+
+    module _ (v : Reader) (k : Took terminal.Equals m v) where
+      equals_read : Leads (one terminal.Equals) (within [] (shape_of left ∷ [])) m (within [] (shape_of left ∷ [])) v
+      equals_read = mark_leads terminal.Equals (within [] (shape_of left ∷ [])) m v tt (side_calm (shape_of left)) k
+
+      pub equation_right : (e : SpecError) → Breaks place.EquationRight 0 v e → Stops equation closed r e
+      equation_right e h = stops_start equation e (later_stops (pattern place.EquationLeft) (one terminal.Equals then pattern place.EquationRight) closed (within [] (shape_of left ∷ [])) start m e equated_read
+          (later_stops (one terminal.Equals) (pattern place.EquationRight) (within [] (shape_of left ∷ [])) (within [] (shape_of left ∷ [])) m v e equals_read (equal_stops (shape_of left) v e h)))
+
+      pub equation_whole : (right : Pattern) (u w : Reader) → IsSide place.EquationRight v right u → state_of w ≡ record (state_of u) { equations = (state_of u).equations ++ (shape_of left, shape_of right) ∷ [] } → end_of w ≡ end_of u → w.tokens.now ≡ u.tokens.now → Leads equation closed r closed w
+      equation_whole right u w h state end tokens = from_start equation closed w (then_leads (pattern place.EquationLeft) (one terminal.Equals then pattern place.EquationRight) closed (within [] (shape_of left ∷ [])) closed start m w equated_read
+          (then_leads (one terminal.Equals) (pattern place.EquationRight) (within [] (shape_of left ∷ [])) (within [] (shape_of left ∷ [])) closed m v w equals_read (equal_leads (shape_of left) (shape_of right) v u w h.builds state end tokens)))
+
+-- ---- what is added
+
+pub rules_read : (before after : List RewriteRule) (new : RewriteRule) (left right : Pattern) → after ≡ before ++ new ∷ [] → (new.left ≡ left) × (new.right ≡ right) → map rule_shapes after ≡ map rule_shapes before ++ (shape_of left, shape_of right) ∷ []
+rules_read before after new left right e sides = ap (map rule_shapes) e ∙ map-append rule_shapes before (new ∷ []) ∙ (λ i. map rule_shapes before ++ (shape_of (sides.0 i), shape_of (sides.1 i)) ∷ [])
+
+pub equations_read : (before after : List RewriteEquation) (new : RewriteEquation) (left right : Pattern) → after ≡ before ++ new ∷ [] → (new.left ≡ left) × (new.right ≡ right) → map equation_shapes after ≡ map equation_shapes before ++ (shape_of left, shape_of right) ∷ []
+equations_read before after new left right e sides = ap (map equation_shapes) e ∙ map-append equation_shapes before (new ∷ []) ∙ (λ i. map equation_shapes before ++ (shape_of (sides.0 i), shape_of (sides.1 i)) ∷ [])

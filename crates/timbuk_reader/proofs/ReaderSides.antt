@@ -32,7 +32,6 @@ shape_var v = ap shape_of (sym (rolls-Var v)) ∙ fold-roll-Pattern Shape shape_
 pub shape_app : (f : ℕ) (ps : List Pattern) → shape_of (App f ps) ≡ shape.App f (map shape_of ps)
 shape_app f ps = ap shape_of (sym (rolls-App f ps)) ∙ fold-roll-Pattern Shape shape_step (layer.App f ps)
 
-
 each_same : (ps : List Pattern) → Each (λ p. occurrences p ≡ shape_occurrences (shape_of p)) ps → joined (map occurrences ps) ≡ joined (map shape_occurrences (map shape_of ps))
 each_same [] h = refl
 each_same (p ∷ ps) h = λ i. h.0 i ++ each_same ps h.1 i
@@ -41,10 +40,6 @@ pub same_occurrences : (p : Pattern) → occurrences p ≡ shape_occurrences (sh
 same_occurrences = pattern_induction (λ p. occurrences p ≡ shape_occurrences (shape_of p))
     (λ v. occurrences_var v ∙ sym (ap shape_occurrences (shape_var v) ∙ fits.occurs_var v))
     (λ f ps h. occurrences_app f ps ∙ each_same ps h ∙ sym (ap shape_occurrences (shape_app f ps) ∙ fits.occurs_app f (map shape_of ps)))
-
-each_test : {A : Type 0} (p : A → Bool) (xs : List A) → list_all (λ b. b) (map p xs) ≡ list_all p xs
-each_test p [] = refl
-each_test p (x ∷ xs) = ap (λ b. p x && b) (each_test p xs)
 
 each_over : (signature : List Symbol) (ps : List Pattern) → Each (λ p. pattern_is_over signature p ≡ shape_is_over signature (shape_of p)) ps → list_all (pattern_is_over signature) ps ≡ list_all (shape_is_over signature) (map shape_of ps)
 each_over signature [] h = refl
@@ -58,8 +53,8 @@ pub same_over : (signature : List Symbol) (p : Pattern) → pattern_is_over sign
 same_over signature = pattern_induction (λ p. pattern_is_over signature p ≡ shape_is_over signature (shape_of p))
     (λ v. over_var signature v ∙ sym (ap (shape_is_over signature) (shape_var v) ∙ fits.over_var signature v))
     (λ f ps h. over_app signature f ps
-      ∙ (λ i. is_symbol signature f (sym (length-map ps shape_of) i) && (each_test (pattern_is_over signature) ps ∙ each_over signature ps h) i)
-      ∙ sym (ap (shape_is_over signature) (shape_app f ps) ∙ fits.over_app signature f (map shape_of ps)))
+    ∙ (λ i. is_symbol signature f (sym (length-map ps shape_of) i) && (fits.each_test (pattern_is_over signature) ps ∙ each_over signature ps h) i)
+    ∙ sym (ap (shape_is_over signature) (shape_app f ps) ∙ fits.over_app signature f (map shape_of ps)))
 
 -- ---- variables
 

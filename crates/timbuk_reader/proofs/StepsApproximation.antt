@@ -23,7 +23,8 @@ use Rattle.timbuk_reader.specs.Declarations.{Text, Declared, Application, any, l
 use Rattle.timbuk_reader.specs.Rows.{or, when, row, is_closed_word, wrong_arity, wrong_count, unexpected_after, expected, at_terminal, passed, misnamed, too_deep, one_too_many, is_unknown, end_row}
 use Rattle.timbuk_reader.specs.Reading.{Outcome, End, outcome, unless, behind, added, terminal_of, ends_by, end_by}
 use Rattle.timbuk_reader.specs.View.{refusal_at, end_fault, sees}
-use Rattle.timbuk_reader.specs.ApproximationReads.{miscounts, has_room}
+use Rattle.timbuk_reader.specs.AutomatonReads.{miscounts}
+use Rattle.timbuk_reader.specs.ApproximationReads.{has_room}
 use Rattle.timbuk_reader.proofs.Steps.{Front, choice_unseen, one_front, then_head, alike, both_alike, maybe_take, many_take, many_skip}
 use Rattle.timbuk_reader.proofs.StepsTokens.{use_row, Quiet, not_closed, row_other, step_on, step_fault, step_wrong, step_unexpected, step_end, mark_row, mark_adds}
 

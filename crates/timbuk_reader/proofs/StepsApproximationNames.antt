@@ -27,7 +27,8 @@ use Rattle.timbuk_reader.specs.declared.meaning.Meaning.{Meaning as Told}
 use Rattle.timbuk_reader.specs.declared.meaning.Meaning.TheVariants as told
 use Rattle.timbuk_reader.specs.Meanings.{meant_by}
 use Rattle.timbuk_reader.specs.Patterns.{Advanced, LeadsToParen}
-use Rattle.timbuk_reader.specs.ApproximationReads.{IsReady, IsBinding, IsLeafPlace, IsLeaf, HasLeaf, leaf_meaning, has_room, formed, headed_by, headed, ReadsName, StopsName, ReadsLeaf, StopsLeaf}
+use Rattle.timbuk_reader.specs.AutomatonReads.{IsReady}
+use Rattle.timbuk_reader.specs.ApproximationReads.{IsBinding, IsLeafPlace, IsLeaf, HasLeaf, leaf_meaning, has_room, formed, headed_by, headed, ReadsName, StopsName, ReadsLeaf, StopsLeaf}
 use Rattle.timbuk_reader.specs.declared.approximation.Form.{Form}
 use Rattle.timbuk_reader.specs.declared.approximation.StartedEntry.{StartedEntry}
 use Rattle.timbuk_reader.specs.declared.approximation.Leaf.{Leaf}

@@ -24,7 +24,8 @@ use Rattle.timbuk_reader.specs.Reading.{End, outcome}
 use Rattle.timbuk_reader.specs.View.{Open, closed, bound_in, declared, inside, state_of, end_of, settled, from, as_error, sees, refusal_at, refusal}
 use Rattle.timbuk_reader.specs.Reads.{Leads, Stops, Reads, IsCalm, Took, Missed}
 use Rattle.timbuk_reader.specs.Patterns.{within, application, IsSpot, Builds, Breaks, SameBut, LacksArguments, LacksArgument, too_few, no_comma, LacksEnd, too_many, no_end}
-use Rattle.timbuk_reader.specs.ApproximationReads.{formed, headed_by, headed, arguing, argued, miscounts, IsReady, IsBinding, leaf_meaning, leaf_shape, with_leaf, with_own, entry_of, ReadsName, StopsName, ReadsLeaf, StopsLeaf, OnlyTokens, OnlyEntries, SameTokens, SameHead, AddsArgument, HasArguments}
+use Rattle.timbuk_reader.specs.AutomatonReads.{miscounts, IsReady, SameTokens}
+use Rattle.timbuk_reader.specs.ApproximationReads.{formed, headed_by, headed, arguing, argued, IsBinding, leaf_meaning, leaf_shape, with_leaf, with_own, entry_of, ReadsName, StopsName, ReadsLeaf, StopsLeaf, OnlyTokens, OnlyEntries, SameHead, AddsArgument, HasArguments}
 use Rattle.timbuk_reader.proofs.Steps.{Head, alike, both_alike, then_head, maybe_skip, many_take, many_skip, then_leads, then_stops, later_stops}
 use Rattle.timbuk_reader.proofs.StepsTokens.{declared_same, mark_leads, mark_stops}
 use Rattle.timbuk_reader.proofs.StepsLast.{after, constant_whole, read_after}

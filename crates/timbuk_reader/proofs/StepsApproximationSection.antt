@@ -21,7 +21,7 @@ use Rattle.timbuk_reader.specs.Rows.{row, expected, passed, misnamed}
 use Rattle.timbuk_reader.specs.Reading.{outcome}
 use Rattle.timbuk_reader.specs.View.{Open, closed, declared, state_of, end_of, settled, from, as_error, sees, refusal, refusal_at}
 use Rattle.timbuk_reader.specs.Reads.{Leads, Stops, Reads, Took, Takes, Missed}
-use Rattle.timbuk_reader.specs.Patterns.{within, Builds, Breaks}
+use Rattle.timbuk_reader.specs.Patterns.{within, Builds, Breaks, SameBut}
 use Rattle.timbuk_reader.specs.ApproximationReads.{formed, form_entries, IsForm, IsPart}
 use Rattle.timbuk_reader.proofs.Steps.{one_front, then_leads, then_stops, later_stops, then_reads}
 use Rattle.timbuk_reader.proofs.StepsTokens.{use_row, Quiet, not_closed, row_expected, row_other, step_on, step_fault, calm_arity, calm_quiet, closed_calm, mark_leads, mark_stops}
@@ -90,6 +90,13 @@ module _ (form : Form) (r : Reader) where
           (then_reads (some entry) (one terminal.CloseEntries) (formed form) (formed form) closed u v w result h (close_reads form v w result k)))
 
 -- ---- an approximation rule
+
+-- the bound variables of no declaration mean nothing
+pub unbound_leads : (p : Part) (r m u : Reader) → Leads p closed r closed m → SameBut m u → u.tokens.now ≡ m.tokens.now → Leads p closed r closed u
+unbound_leads p r m u h same tokens = record { by = λ ps. h.by ps ∙ (λ i. settled (outcome (sym same.end i) ps (sym same.state i) (sym tokens i))) }
+
+pub rule_stops_at_open : (r : Reader) (e : SpecError) → Stops (one terminal.OpenBracket) closed r e → Stops approximation_rule closed r e
+rule_stops_at_open r e h = then_stops (one terminal.OpenBracket) (pattern place.EntryWhole then one terminal.Arrow then name place.EntryAt then one terminal.CloseBracket then form_entries) closed r e h
 
 abbrev behind_at : Part
 behind_at = one terminal.CloseBracket then form_entries
@@ -220,3 +227,20 @@ word_leads r m x s later none tokens state end ps =
     ∙ step_on (one terminal.Approximation ∷ ps) terminal.Approximation ps (end_of r) d x m.tokens.now (one_front terminal.Approximation ps) seen (late_row d x refl refl seen later ∙ word_row x.text d false few)
     ∙ ap (λ z. outcome (end_of r) ps z m.tokens.now) (word_adds x.text d refl ∙ ap (λ n. record d { approximations = n + 1 }) none)
     ∙ (λ i. outcome (sym end i) ps (record (sym state i) { approximations = 1 }) m.tokens.now))
+
+-- ---- the section
+
+abbrev behind_rules : Part
+behind_rules = many approximation_rule
+
+abbrev behind_states : Part
+behind_states = one terminal.Rules then behind_rules
+
+abbrev behind_states_word : Part
+behind_states_word = many (state place.ApproximationState) then behind_states
+
+abbrev behind_title : Part
+behind_title = one terminal.States then behind_states_word
+
+abbrev behind_word : Part
+behind_word = name place.Title then behind_title

@@ -1,4 +1,5 @@
 -- A name in a pattern.
+use Rattle.std.proofs.Math.Bool.{and-false, and-true, or-false}
 use Rattle.std.proofs.Common.{◌≡◌, ◌≢◌, ℕ, zero, suc, ◌+◌, ◌<◌, ◌≤◌, length, arith, add-zero, Bool, true, false, not, ◌&&◌, ◌||◌, ◌==◌, cond, List, [], ◌∷◌, ◌++◌, Option, Some, None, Ok, Err, Result, refl, ap, sym, ◌∙◌, subst}
 use Rattle.std.specs.Prelude.{map, option_map, nat_lt, nat_le}
 use Rattle.std.specs.List.{list_all}
@@ -31,24 +32,12 @@ use Rattle.timbuk_reader.proofs.StepsTokens.{use_row, Quiet, row_other, step_on,
 
 -- ---- what is open, as numbers
 
-or_false : (b : Bool) → (b || false) ≡ b
-or_false true = refl
-or_false false = refl
-
-and_false : (b : Bool) → (b && false) ≡ false
-and_false true = refl
-and_false false = refl
-
-and_true : (b : Bool) → (b && true) ≡ b
-and_true true = refl
-and_true false = refl
-
 none_open_is : (applications : List Application) → none_open applications ≡ (length applications == 0)
 none_open_is [] = refl
 none_open_is (a ∷ outer) = let e : (suc (length outer) == 0) ≡ false = grind (arith, nat_tests) in sym e
 
 first_is : (p : Place) (depth : ℕ) (applications : List Application) (shapes : List Shape) → length applications ≡ depth → shapes ≡ [] → (none_open applications && none_whole shapes) ≡ (depth == 0)
-first_is p depth applications shapes e f = rw f (and_true (none_open applications) ∙ none_open_is applications ∙ ap (λ n. n == 0) e)
+first_is p depth applications shapes e f = rw f (and-true (none_open applications) ∙ none_open_is applications ∙ ap (λ n. n == 0) e)
 
 -- ---- the row of a name
 
@@ -74,7 +63,7 @@ module _ (r : Reader) (depth : ℕ) (applications : List Application) (shapes : 
 
   limit_is : (m : Meaning) (side : Option LimitName) → or (too_deep m D) (or (one_too_many m D) side) ≡ pattern_limit m depth r.bound side
   limit_is unknown side = refl
-  limit_is (a_variable v) side = rw (or_false, add-zero) (or_if (not (has r.bound v) && nat_le 16 (length r.bound)) limit.Variables side)
+  limit_is (a_variable v) side = rw (or-false, add-zero) (or_if (not (has r.bound v) && nat_le 16 (length r.bound)) limit.Variables side)
   limit_is (a_state q) side = refl
   limit_is (a_symbol f n) side = rw deep (or_if (nat_lt 0 n && nat_le 100 depth) limit.Nesting side)
 
@@ -114,7 +103,7 @@ module _ (r : Reader) (depth : ℕ) (applications : List Application) (shapes : 
   -- the rows of a short name, by what it means
   use_is : (p : Place) (text : Text) → IsPatternPlace p → nat_lt 255 (length text) ≡ false
       → use_row (terminal.Named p) text D ≡ or (option_map kind.Limit (or (too_deep (meaning D p text) D) (or (one_too_many (meaning D p text) D) (over (terminal.Named p) [] D))))
-        (or (when (is_unknown (meaning D p text)) kind.UnknownName) (or (when (variable_left (terminal.Named p) (meaning D p text) D) kind.VariableLeft) (or (when (stands_twice (terminal.Named p) (meaning D p text) D) kind.NotLeftLinear) (when (is_free (terminal.Named p) (meaning D p text) D) kind.FreeVariable))))
+      (or (when (is_unknown (meaning D p text)) kind.UnknownName) (or (when (variable_left (terminal.Named p) (meaning D p text) D) kind.VariableLeft) (or (when (stands_twice (terminal.Named p) (meaning D p text) D) kind.NotLeftLinear) (when (is_free (terminal.Named p) (meaning D p text) D) kind.FreeVariable))))
   unfolding passed misnamed
   use_is place.LeftSide text h e = rw e refl
   use_is place.RightSide text h e = rw e refl
@@ -129,7 +118,7 @@ module _ (r : Reader) (depth : ℕ) (applications : List Application) (shapes : 
       let few : nat_lt 255 (length text) ≡ false = grind (arith, nat_tests) in
       use_is p text h few
       ∙ (λ i. let n = (meaning_is p text h ∙ is) i in or (option_map kind.Limit (or (too_deep n D) (or (one_too_many n D) (over (terminal.Named p) [] D))))
-        (or (when (is_unknown n) kind.UnknownName) (or (when (variable_left (terminal.Named p) n D) kind.VariableLeft) (or (when (stands_twice (terminal.Named p) n D) kind.NotLeftLinear) (when (is_free (terminal.Named p) n D) kind.FreeVariable)))))
+      (or (when (is_unknown n) kind.UnknownName) (or (when (variable_left (terminal.Named p) n D) kind.VariableLeft) (or (when (stands_twice (terminal.Named p) n D) kind.NotLeftLinear) (when (is_free (terminal.Named p) n D) kind.FreeVariable)))))
       ∙ (λ i. or (option_map kind.Limit ((ap (λ s. or (too_deep m D) (or (one_too_many m D) s)) (over_is p h first) ∙ limit_is m (side_limit p depth (length r.rules) (length r.equations))) i)) (misuse_is p m h first i))
 
 -- ---- a name as a token
@@ -169,7 +158,7 @@ no_room_wrong [] x h c = refl
 no_room_wrong (a ∷ outer) x h c =
     let less : nat_le a.arity (length a.args) ≡ false = grind (arith, nat_tests) in
     let open_one : 0 < length (a ∷ outer) = omega arith in
-    rw (c open_one, less) (and_false (matches terminal.Comma x))
+    rw (c open_one, less) (and-false (matches terminal.Comma x))
 
 -- there is no name, and no `)` that comes too early
 pub pattern_missed : (p : Place) (ps : List Part) (end : End) (d : Declared) (xs : List Lexeme) → d.last ≡ any → HasRoom d.applications → sees (terminal.Named p) xs ≡ false → (0 < length d.applications → sees terminal.CloseParen xs ≡ false)

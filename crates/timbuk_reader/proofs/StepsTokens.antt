@@ -34,10 +34,6 @@ use Rattle.timbuk_reader.proofs.Steps.{Front, choice_seen, choice_unseen, one_fr
 
 -- ---- a token that is expected is no closed word
 
-both_true : (a b : Bool) → (a && b) ≡ true → (a ≡ true) × (b ≡ true)
-both_true true b e = (refl, e)
-both_true false b e = cc
-
 open_word : (k : Bool) (text a : Bytes) → is_closed a ≡ false → (k && bytes_eq text a) ≡ true → (k && is_closed text) ≡ false
 open_word false text a d e = refl
 open_word true text a d e = ap is_closed ((bytes_eq-Decides text a).0 e) ∙ d
@@ -111,11 +107,6 @@ abbrev pub IsOther : Terminal → Type 0
 IsOther terminal.Approximation = ⊥
 IsOther _ = Unit {0}
 
-no_word : (k : TokenKind) (q : Bool) → is_text k ≡ true → (is_word k && q) ≡ false
-no_word Word q e = cc
-no_word Text q e = refl
-no_word Mark q e = cc
-
 not_equal : (a b : Bytes) (same : Bool) → bytes_eq a b ≡ same → list_all is_ascii_digit a ≡ true → list_all is_ascii_digit b ≡ false → bytes_eq a b ≡ false
 not_equal a b true i e f = let h = ap (list_all is_ascii_digit) ((bytes_eq-Decides a b).0 i) in cc
 not_equal a b false i e f = i
@@ -128,7 +119,7 @@ pub no_approximation : (t : Terminal) (x : Lexeme) → IsOther t → matches t x
 unfolding is_reserved
 no_approximation terminal.Approximation x o e = absurd o
 no_approximation terminal.Number x o e = no_digits (is_word x.kind) x.text e
-no_approximation terminal.Quoted x o e = no_word x.kind _ e
+no_approximation terminal.Quoted x o e = open_text x.kind _ e
 no_approximation terminal.Ops x o e = differ.apart terminal.Ops terminal.Approximation x refl e
 no_approximation terminal.Vars x o e = differ.apart terminal.Vars terminal.Approximation x refl e
 no_approximation terminal.Trs x o e = differ.apart terminal.Trs terminal.Approximation x refl e

@@ -26,27 +26,19 @@ use Rattle.timbuk_reader.specs.Reading.{outcome}
 use Rattle.timbuk_reader.specs.View.{Open, declared, state_of, end_of, settled, from, refusal, sees}
 use Rattle.timbuk_reader.specs.Reads.{Stops, Stands}
 use Rattle.timbuk_reader.specs.Patterns.{within, application}
+use Rattle.timbuk_reader.specs.AutomatonReads.{IsReady}
 
--- ---- the section
-
--- the approximation has begun, and has no entry yet
-pub record IsNewApproximation (r : Reader) : Type 0 where
-  pub begun : r.approximations ≢ 0
-  pub none : r.entries ≡ []
-
--- no more tokens are left
-abbrev pub NoLonger : Reader → Reader → Type 0
-NoLonger old new = length new.tokens.now ≤ length old.tokens.now
+-- ---- what stays
 
 -- only the tokens are others
 pub record OnlyTokens (old new : Reader) : Type 0 where
   pub state : state_of new ≡ state_of old
   pub bound : new.bound ≡ old.bound
 
--- the same tokens are left
-pub record SameTokens (old new : Reader) : Type 0 where
-  pub tokens : new.tokens.now ≡ old.tokens.now
-  pub end : end_of new ≡ end_of old
+-- only the entries and the tokens are others
+pub record OnlyEntries (old new : Reader) : Type 0 where
+  pub state : state_of new ≡ record (state_of old) { entries = new.entries }
+  pub bound : new.bound ≡ old.bound
 
 -- ---- what is open in an approximation rule
 
@@ -94,16 +86,6 @@ leaf_meaning (leaf.State q) = a_state q
 abbrev pub leaf_shape : Leaf → Shape
 leaf_shape (leaf.Variable v) = shape.Var v
 leaf_shape (leaf.State q) = shape.State q
-
--- whether the next token tells of another number of arguments
-abbrev pub miscounts : List Application → List Lexeme → Bool
-miscounts applications [] = false
-miscounts applications (x ∷ rest) = wrong_count applications x
-
--- no token before decides on the next one
-pub record IsReady (o : Open) (r : Reader) : Type 0 where
-  pub last : o.last ≡ any
-  pub count : miscounts o.applications r.tokens.now ≡ false
 
 -- a name was read that has this meaning
 pub record ReadsName (p : Place) (old : Reader) (m : Meaning) (new : Reader) : Type 0 where
@@ -212,8 +194,3 @@ pub record HasArguments (r : Reader) (e : SpecError) : Type 0 where
 -- what follows the form of an approximation rule
 abbrev pub form_entries : Part
 form_entries = one terminal.Arrow then one terminal.OpenBracket then some entry then one terminal.CloseEntries
-
--- only the entries and the tokens are others
-pub record OnlyEntries (old new : Reader) : Type 0 where
-  pub state : state_of new ≡ record (state_of old) { entries = new.entries }
-  pub bound : new.bound ≡ old.bound

@@ -1,10 +1,12 @@
 -- What is claimed of input texts (this project's own format).
-use Rattle.std.specs.Prelude.{◌≡◌, ℕ, List, Ok}
+use Rattle.std.specs.Prelude.{◌≡◌, ◌↔◌, ℕ, List, Ok, Err}
 use Rattle.ta_core.specs.declared.spec.Spec.{Spec}
+use Rattle.timbuk_reader.specs.declared.fault.SpecFault.{SpecFault}
 use Rattle.timbuk_reader.specs.Declarations.{Declared}
 use Rattle.timbuk_reader.specs.Reading.{read}
 use Rattle.timbuk_reader.specs.SpecText.{SpecText}
 use Rattle.timbuk_reader.specs.Spelled.{IsSpecOf}
+use Rattle.timbuk_reader.specs.Faults.{SpecFaultAt}
 
 -- the bytes are read to their end, and what they declare spells this spec
 pub record IsRead (bytes : List ℕ) (spec : Spec) : Type 0 where
@@ -23,3 +25,7 @@ WhatIsSpelledIsRead = (bytes : List ℕ) (spec : Spec) → SpecText bytes spec �
 -- no text spells two specs
 abbrev pub OneSpec : Type 0
 OneSpec = (bytes : List ℕ) (a b : Spec) → SpecText bytes a → SpecText bytes b → a ≡ b
+
+-- the fault that reading meets is the first one, and a text has one first fault at most
+abbrev pub FaultsAreFirst : Type 0
+FaultsAreFirst = (bytes : List ℕ) (f : SpecFault) → (read bytes ≡ Err f) ↔ SpecFaultAt bytes f

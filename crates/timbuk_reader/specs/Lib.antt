@@ -13,4 +13,7 @@ pub mod Kept
 pub mod Patterns
 pub mod Meanings
 pub mod Sides
+pub mod AutomatonReads
+pub mod SectionReads
+pub mod Faults
 pub mod ApproximationReads

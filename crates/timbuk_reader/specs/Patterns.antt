@@ -60,12 +60,12 @@ placed_from p ps s applications shapes r = settled (outcome (end_of r) ps (recor
 -- a pattern was read
 pub record Builds (p : Place) (depth : ℕ) (old : Reader) (s : Shape) (new : Reader) : Type 0 where
   pub by : (ps : List Part) (applications : List Application) (shapes : List Shape) → IsSpot p depth applications shapes
-    → from (within applications shapes) (pattern p ∷ ps) old ≡ placed_from p ps s applications shapes new
+      → from (within applications shapes) (pattern p ∷ ps) old ≡ placed_from p ps s applications shapes new
 
 -- a pattern has the first fault
 pub record Breaks (p : Place) (depth : ℕ) (old : Reader) (e : SpecError) : Type 0 where
   pub by : e ≢ error.Memory → (ps : List Part) (applications : List Application) (shapes : List Shape) → IsSpot p depth applications shapes
-    → as_error (from (within applications shapes) (pattern p ∷ ps) old) ≡ Err e
+      → as_error (from (within applications shapes) (pattern p ∷ ps) old) ≡ Err e
 
 abbrev pub BuildsAt : Place → ℕ → Reader → Result Shape SpecError → Reader → Type 0
 BuildsAt p depth old (Ok s) new = Builds p depth old s new
@@ -83,12 +83,12 @@ applied_from p f n ps applications shapes r = from (record (within (application 
 -- its arguments were read
 pub record Applies (p : Place) (f n depth : ℕ) (old : Reader) (args : List Shape) (new : Reader) : Type 0 where
   pub by : (ps : List Part) (applications : List Application) (shapes : List Shape) → length applications ≡ depth → IsFirstSide p shapes
-    → applied_from p f n ps applications shapes old ≡ placed_from p ps (shape.App f args) applications shapes new
+      → applied_from p f n ps applications shapes old ≡ placed_from p ps (shape.App f args) applications shapes new
 
 -- its arguments have the first fault
 pub record Misapplies (p : Place) (f n depth : ℕ) (old : Reader) (e : SpecError) : Type 0 where
   pub by : e ≢ error.Memory → (ps : List Part) (applications : List Application) (shapes : List Shape) → length applications ≡ depth → IsFirstSide p shapes
-    → as_error (applied_from p f n ps applications shapes old) ≡ Err e
+      → as_error (applied_from p f n ps applications shapes old) ≡ Err e
 
 abbrev pub AppliesAll : Place → ℕ → ℕ → ℕ → Reader → Result (List Shape) SpecError → Reader → Type 0
 AppliesAll p f n depth old (Ok args) new = Applies p f n depth old args new
@@ -104,7 +104,7 @@ filled_from p f n args ps applications shapes r = from (within (application p f 
 -- so many arguments were read
 pub record Filled (p : Place) (f n depth : ℕ) (old : Reader) (args : List Shape) (new : Reader) : Type 0 where
   pub by : (ps : List Part) (applications : List Application) (shapes : List Shape) → length applications ≡ depth → IsFirstSide p shapes
-    → applied_from p f n ps applications shapes old ≡ filled_from p f n args ps applications shapes new
+      → applied_from p f n ps applications shapes old ≡ filled_from p f n args ps applications shapes new
 
 -- ---- marks between arguments
 

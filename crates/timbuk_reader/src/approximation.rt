@@ -7,7 +7,8 @@ ghost use Rattle.timbuk_reader.specs.Declarations.{a_state};
 ghost use Rattle.timbuk_reader.specs.View.{Shorter, closed, state_of, sees};
 ghost use Rattle.timbuk_reader.specs.Reads.{Leads, Stops, Reads};
 ghost use Rattle.timbuk_reader.specs.Patterns.{within, SameBut};
-ghost use Rattle.timbuk_reader.specs.ApproximationReads.{IsNewApproximation, NoLonger, OnlyTokens, SameTokens, OnlyEntries, IsLeafPlace, ReadsName, StopsName, HasLeaf, ReadsLeaf, StopsLeaf, IsLeaf, IsPart, IsForm, IsStarted, IsNewEntry, AddsArgument, SameHead, HasArguments};
+ghost use Rattle.timbuk_reader.specs.AutomatonReads.{NoLonger, SameTokens, IsInApproximation};
+ghost use Rattle.timbuk_reader.specs.ApproximationReads.{OnlyTokens, OnlyEntries, IsLeafPlace, ReadsName, StopsName, HasLeaf, ReadsLeaf, StopsLeaf, IsLeaf, IsPart, IsForm, IsStarted, IsNewEntry, AddsArgument, SameHead, HasArguments};
 ghost use Rattle.timbuk_reader.specs.ApproximationReads as entries;
 
 use crate::fault::{LimitName, SpecError, SpecKind};
@@ -100,6 +101,7 @@ impl StartedEntry {
 
 impl<'s, 'a> Reader<'s, 'a> {
     /// An approximation, from its word on. It is refused before the first automaton, and where there is one.
+    #[tactic(auto, using(crate::proofs::Steps::then_leads, crate::proofs::Steps::then_stops, crate::proofs::Steps::later_stops, crate::proofs::Steps::then_reads))]
     pub(crate) fn approximation(&mut self) -> Result<(), SpecError>
         ensures shorter { OnOk result (Shorter self.old self.new) }
         ensures reads { Reads grammar.approximation closed self.old result closed self.new }
@@ -107,7 +109,7 @@ impl<'s, 'a> Reader<'s, 'a> {
         self.approximation_word()?;
         self.title()?;
         self.mark(Terminal::States)?;
-        self.approximation_states()?;
+        self.states(Place::ApproximationState)?;
         self.mark(Terminal::Rules)?;
         self.approximation_rules()
     }
@@ -117,7 +119,7 @@ impl<'s, 'a> Reader<'s, 'a> {
     fn approximation_word(&mut self) -> Result<(), SpecError>
         ensures shorter { OnOk result (Shorter self.old self.new) }
         ensures reads { Reads (grammar.one terminal.Approximation) closed self.old result closed self.new }
-        ensures new { OnOk result (IsNewApproximation self.new) }
+        ensures inside { OnOk result (IsInApproximation self.new) }
     {
         if self.automata == 0 || !self.sees(Terminal::Approximation) {
             return Err(self.refusal(SpecKind::Expected));
@@ -131,6 +133,7 @@ impl<'s, 'a> Reader<'s, 'a> {
     }
 
     /// Approximation rules, as many as there are.
+    #[tactic(auto, using(crate::proofs::Steps::turns_start, crate::proofs::Steps::turns_again, crate::proofs::Steps::turns_stop, crate::proofs::Steps::turns_err, crate::proofs::Steps::then_head))]
     fn approximation_rules(&mut self) -> Result<(), SpecError>
         requires { self.old.approximations ≢ 0 }
         ensures no_longer { OnOk result (NoLonger self.old self.new) }
@@ -150,7 +153,7 @@ impl<'s, 'a> Reader<'s, 'a> {
         ensures same { OnOk result (self.new.approximations ≡ self.old.approximations) }
     {
         self.mark(Terminal::OpenBracket)?;
-        self.bound = Seq::new(self.alloc);
+        self.unbind();
         let whole = self.pattern(Place::EntryWhole, 0)?;
         self.mark(Terminal::Arrow)?;
         let form = self.form(whole)?;

@@ -1,5 +1,5 @@
 //! Laws of input texts. Each function does nothing: its contract is the law.
-ghost use Rattle.timbuk_reader.specs.Laws.{WhatIsReadIsSpelled, WhatIsSpelledIsRead, OneSpec};
+ghost use Rattle.timbuk_reader.specs.Laws.{WhatIsReadIsSpelled, WhatIsSpelledIsRead, OneSpec, FaultsAreFirst};
 
 /// No row of the table of faults fits a text anywhere exactly where the text spells a specification, and this is what is
 /// read in it.
@@ -11,4 +11,10 @@ pub fn texts_are_read()
 /// No text spells two specifications.
 pub fn no_text_has_two_specs()
     ensures { OneSpec }
+{}
+
+/// The fault that reading meets is that of the first place at which a row of the table of faults fits. So each text has at
+/// most one first fault.
+pub fn faults_are_first()
+    ensures { FaultsAreFirst }
 {}

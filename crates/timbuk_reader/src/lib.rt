@@ -9,10 +9,12 @@ mod laws;
 mod meaning;
 mod names;
 mod pattern;
+mod reader;
 mod rules;
+mod sections;
 mod state;
-mod stubs;
 mod symbols;
 
 pub use fault::{LimitName, SpecError, SpecFault, SpecKind};
-pub use laws::{no_text_has_two_specs, texts_are_read};
+pub use laws::{faults_are_first, no_text_has_two_specs, texts_are_read};
+pub use reader::read_spec;

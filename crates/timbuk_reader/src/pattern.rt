@@ -1,5 +1,5 @@
 //! Reads patterns.
-ghost use Rattle.std.specs.Prelude.{◌≡◌, ◌<◌, ◌≤◌, ◌==◌, false, IfOk, IfErr, OnOk, MatchResult, length};
+ghost use Rattle.std.specs.Prelude.{◌≡◌, ◌<◌, ◌≤◌, ◌==◌, [], false, IfOk, IfErr, OnOk, MatchResult, length};
 ghost use Rattle.std.specs.List.{list_any};
 ghost use Rattle.timbuk_grammar.specs.declared.terminal.Terminal.TheVariants as terminal;
 ghost use Rattle.timbuk_reader.specs.Declarations.{has, with_variable, a_variable, a_state, a_symbol};
@@ -56,7 +56,13 @@ impl<'s, 'a> Reader<'s, 'a> {
     /// The arguments of a symbol that stands below so many open applications, as many as its arity says. Another number is
     /// refused.
     #[cycle(pattern)]
-    fn arguments(&mut self, place: Place, sym: u32, arity: u32, depth: u32) -> Result<Seq<Shape>, SpecError>
+    fn arguments(
+        &mut self,
+        place: Place,
+        sym: u32,
+        arity: u32,
+        depth: u32,
+    ) -> Result<Seq<Shape>, SpecError>
         requires place { IsPatternPlace place }
         requires depth { depth < 100 }
         requires some { 0 < arity }
@@ -95,7 +101,12 @@ impl<'s, 'a> Reader<'s, 'a> {
     }
 
     /// A variable, whose name comes next. A `(` behind it is refused.
-    fn pattern_variable(&mut self, place: Place, depth: u32, variable: u32) -> Result<Shape, SpecError>
+    fn pattern_variable(
+        &mut self,
+        place: Place,
+        depth: u32,
+        variable: u32,
+    ) -> Result<Shape, SpecError>
         requires place { IsPatternPlace place }
         requires head { HasHead place depth self.old (a_variable variable) }
         ensures shorter { OnOk result (Shorter self.old self.new) }
@@ -183,6 +194,15 @@ impl<'s, 'a> Reader<'s, 'a> {
         contains(self.bound.as_slice(), variable)
     }
 
+    /// Forgets the variables of an earlier declaration.
+    pub(crate) fn unbind(&mut self)
+        ensures bound { self.new.bound ≡ [] }
+        ensures same { SameBut self.old self.new }
+        ensures tokens { self.new.tokens.now ≡ self.old.tokens.now }
+    {
+        self.bound = Seq::new(self.alloc);
+    }
+
     /// Notes that the variable stands in the declaration that is being read. The only error is want of memory.
     pub(crate) fn bind(&mut self, variable: u32) -> Result<(), AllocError>
         requires { has self.old.bound variable ≡ false → length self.old.bound < 16 }
@@ -226,8 +246,7 @@ impl<'s, 'a> Reader<'s, 'a> {
                 Some(LimitName::Nesting)
             }
             Meaning::Variable(variable)
-                if !self.is_bound(variable) && self.bound.len() >= MAX_BOUND =>
-            {
+                if !self.is_bound(variable) && self.bound.len() >= MAX_BOUND => {
                 Some(LimitName::Variables)
             }
             _ => self.side_limit(place, depth),

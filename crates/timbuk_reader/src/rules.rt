@@ -1,5 +1,5 @@
 //! Reads rules and equations.
-ghost use Rattle.std.specs.Prelude.{◌≡◌, ◌≤◌, IsTrue, IfOk, OnOk, length};
+ghost use Rattle.std.specs.Prelude.{◌≡◌, ◌≤◌, false, IfOk, OnOk, MatchOption, length};
 ghost use Rattle.ta_core.specs.SpecRules.{shape_is_below};
 ghost use Rattle.timbuk_grammar.specs.Grammar as grammar;
 ghost use Rattle.timbuk_grammar.specs.declared.terminal.Terminal.TheVariants as terminal;
@@ -19,6 +19,7 @@ use trs_rules::{Equation, Rule};
 
 impl<'s, 'a> Reader<'s, 'a> {
     /// The rules, from the word `TRS` on. They are refused where there are some.
+    #[tactic(auto, using(crate::proofs::Steps::then_stops, crate::proofs::Steps::later_stops))]
     pub(crate) fn system(&mut self) -> Result<(), SpecError>
         ensures shorter { OnOk result (Shorter self.old self.new) }
         ensures reads { Reads grammar.system closed self.old result closed self.new }
@@ -45,6 +46,7 @@ impl<'s, 'a> Reader<'s, 'a> {
     }
 
     /// The equations, from the word `Equations` on. They are refused where there are some.
+    #[tactic(auto, using(crate::proofs::Steps::then_stops, crate::proofs::Steps::later_stops))]
     pub(crate) fn equations(&mut self) -> Result<(), SpecError>
         ensures shorter { OnOk result (Shorter self.old self.new) }
         ensures reads { Reads grammar.equations closed self.old result closed self.new }
@@ -91,7 +93,7 @@ impl<'s, 'a> Reader<'s, 'a> {
         ensures shorter { OnOk result (Shorter self.old self.new) }
         ensures reads { Reads grammar.rule closed self.old result closed self.new }
     {
-        self.bound = Seq::new(self.alloc);
+        self.unbind();
         let left = self.side(Place::LeftSide)?;
         self.take(Terminal::Arrow)?;
         let right = self.side(Place::RightSide)?;
@@ -117,7 +119,7 @@ impl<'s, 'a> Reader<'s, 'a> {
         ensures shorter { OnOk result (Shorter self.old self.new) }
         ensures reads { Reads grammar.equation closed self.old result closed self.new }
     {
-        self.bound = Seq::new(self.alloc);
+        self.unbind();
         let left = self.side(Place::EquationLeft)?;
         self.take(Terminal::Equals)?;
         let right = self.side(Place::EquationRight)?;
@@ -134,24 +136,29 @@ impl<'s, 'a> Reader<'s, 'a> {
         ensures reads { ReadsSide place self.old result self.new }
     {
         let shape = self.pattern(place, 0)?;
-        Ok(pattern_of(self.alloc, &shape)?)
+        match pattern_of(self.alloc, &shape)? {
+            Some(side) => Ok(side),
+            None => unreachable!(),
+        }
     }
 }
 
-/// The shape as a pattern. It has no state. The only error is want of memory.
-fn pattern_of(alloc: Global, shape: &Shape) -> Result<Pattern, AllocError>
-    requires { IsTrue (shape_is_below 0 shape.now) }
-    ensures { IfOk result (λ pattern. shape_of pattern ≡ shape.now) }
+/// The shape as a pattern. `None` exactly where a state stands in it. The only error is want of memory.
+fn pattern_of(alloc: Global, shape: &Shape) -> Result<Option<Pattern>, AllocError>
+    ensures { IfOk result (λ found. MatchOption found (shape_is_below 0 shape.now ≡ false) (λ pattern. shape_of pattern ≡ shape.now)) }
 {
     match shape {
-        Shape::Var(variable) => Ok(Pattern::Var(*variable)),
-        Shape::State(_) => unreachable!(),
+        Shape::Var(variable) => Ok(Some(Pattern::Var(*variable))),
+        Shape::State(_) => Ok(None),
         Shape::App(sym, args) => {
             let mut patterns = Seq::new(alloc);
             for arg in args.as_slice() {
-                patterns.push(pattern_of(alloc, arg)?)?;
+                let Some(pattern) = pattern_of(alloc, arg)? else {
+                    return Ok(None);
+                };
+                patterns.push(pattern)?;
             }
-            Ok(Pattern::App(*sym, patterns))
+            Ok(Some(Pattern::App(*sym, patterns)))
         }
     }
 }

@@ -1,8 +1,9 @@
 //! The reader's state.
 ghost use Rattle.std.specs.Prelude.{◌≡◌, ◌≤◌, ◌-◌, [], All, IsTrue, length};
 ghost use Rattle.timbuk_lex.specs.Laws.{HasWord};
+ghost use Rattle.trs_rules.specs.Rules.{IsEquation};
 ghost use Rattle.ta_core.specs.SpecRules.{rules_are_over, equations_are_over, entries_are_over, entries_are_below, entries_are_small};
-ghost use Rattle.timbuk_reader.specs.Kept.{trans_are_over, states_are_below, trans_are_below, eps_are_below};
+ghost use Rattle.timbuk_reader.specs.Kept.{IsKeptRule, trans_are_over, states_are_below, trans_are_below, eps_are_below};
 
 use crate::names::NameTable;
 use ranked_terms::{Seq, Signature};
@@ -61,6 +62,8 @@ pub(crate) struct Reader<'s, 'a> {
     pub(crate) bound: Seq<u32>,
     // The text of a word token is a word.
     ghost words: { All HasWord tokens.now },
+    ghost are_rules: { All IsKeptRule rules },
+    ghost are_equations: { All IsEquation equations },
     // Each symbol is in the signature, with as many arguments as its arity says.
     ghost rules_over: { IsTrue (rules_are_over signature rules) },
     ghost equations_over: { IsTrue (equations_are_over signature equations) },

@@ -1,7 +1,7 @@
-use Rattle.std.proofs.Common.{◌≡◌, ◌<◌, ◌≤◌, ◌+◌, ℕ, length, List, [], ◌∷◌, ◌++◌, refl, sym, ap, ◌∙◌, subst, arith, length-append}
+use Rattle.std.proofs.Common.{length, [], ◌∷◌, ◌++◌, refl, ap, ◌∙◌, subst, arith, length-append}
 use Rattle.std.proofs.lemmas.Grind.{common_steps}
 use Rattle.timbuk_grammar.specs.declared.terminal.Terminal.TheVariants as terminal
-use Rattle.timbuk_reader.specs.Declarations.{Declared, a_symbol}
+use Rattle.timbuk_reader.specs.Declarations.{a_symbol}
 use Rattle.timbuk_reader.specs.Meanings.{meant_by}
 use Rattle.timbuk_reader.specs.View.{state_of}
 use Rattle.timbuk_reader.specs.Patterns.{Misapplies, Breaks, HasHead}
@@ -23,7 +23,7 @@ pub arguments-returns-in_err-pattern-clause-reads : goal.arguments-returns-in_er
 arguments-returns-in_err-pattern-clause-reads t c =
     let e = c.in_err-pattern.field-0.0 in
     let breaks : Misapplies c.args.place c.args.sym c.args.arity c.args.depth c.args.self.now e =
-        first_breaks c.args.place c.args.sym c.args.arity c.args.depth c.requires.some c.args.self.now c.first_argument.new.self e c.in_ok-first_argument.ensures c.in_err-pattern.ensures.reads in
+    first_breaks c.args.place c.args.sym c.args.arity c.args.depth c.requires.some c.args.self.now c.first_argument.new.self e c.in_ok-first_argument.ensures c.in_err-pattern.ensures.reads in
     grind (arith, common_steps)
 
 pub arguments-loop-place-init : goal.arguments-loop-place-init
@@ -48,14 +48,14 @@ pub arguments-returns-in_err-next_argument-clause-reads : goal.arguments-returns
 arguments-returns-in_err-next_argument-clause-reads t c =
     let e = c.in_err-next_argument.field-0.0 in
     let breaks : Misapplies c.args.place c.args.sym c.args.arity c.args.depth c.args.self.now e =
-        lacks_next c.args.place c.args.sym c.args.arity c.args.depth c.args.self.now c.loop-place.self c.loop-place.args e c.loop-place.invariant.filled (omega arith) c.in_err-next_argument.ensures in
+    lacks_next c.args.place c.args.sym c.args.arity c.args.depth c.args.self.now c.loop-place.self c.loop-place.args e c.loop-place.invariant.filled (omega arith) c.in_err-next_argument.ensures in
     grind (arith, common_steps)
 
 pub arguments-returns-in_err-pattern-2-clause-reads : goal.arguments-returns-in_err-pattern-2-clause-reads
 arguments-returns-in_err-pattern-2-clause-reads t c =
     let e = c.in_err-pattern-2.field-0.0 in
     let breaks : Misapplies c.args.place c.args.sym c.args.arity c.args.depth c.args.self.now e =
-        next_breaks c.args.place c.args.sym c.args.arity c.args.depth c.args.self.now c.loop-place.self c.next_argument.new.self c.loop-place.args e c.loop-place.invariant.filled (omega arith) c.in_ok-next_argument.ensures c.in_err-pattern-2.ensures.reads in
+    next_breaks c.args.place c.args.sym c.args.arity c.args.depth c.args.self.now c.loop-place.self c.next_argument.new.self c.loop-place.args e c.loop-place.invariant.filled (omega arith) c.in_ok-next_argument.ensures c.in_err-pattern-2.ensures.reads in
     grind (arith, common_steps)
 
 pub arguments-loop-place-preserved : goal.arguments-loop-place-preserved
@@ -83,7 +83,7 @@ pub arguments-returns-in_err-last_argument-clause-reads : goal.arguments-returns
 arguments-returns-in_err-last_argument-clause-reads t c =
     let e = c.in_err-last_argument.field-0.0 in
     let breaks : Misapplies c.args.place c.args.sym c.args.arity c.args.depth c.args.self.now e =
-        lacks_last c.args.place c.args.sym c.args.arity c.args.depth c.args.self.now c.loop-place.self c.loop-place.args e c.loop-place.invariant.filled (omega arith) c.in_err-last_argument.ensures in
+    lacks_last c.args.place c.args.sym c.args.arity c.args.depth c.args.self.now c.loop-place.self c.loop-place.args e c.loop-place.invariant.filled (omega arith) c.in_err-last_argument.ensures in
     grind (arith, common_steps)
 
 pub arguments-returns-clause-reads : goal.arguments-returns-clause-reads
@@ -99,8 +99,8 @@ pattern-returns-in_err-args-in-Symbol-clause-reads t c =
     let e = c.in_err-args-in-Symbol.field-0.0 in
     let head : HasHead c.args.place c.args.depth r (a_symbol c.in-Symbol.sym c.in-Symbol.arity) = subst (λ z. HasHead c.args.place c.args.depth r (meant_by z)) c.in-Symbol.is c.in_ok-pattern_head.ensures.ok in
     let breaks : Breaks c.args.place c.args.depth r e =
-        function_breaks c.args.place c.requires.place r u c.args.depth head.text head.stands c.advance.result.now c.advance.ensures.token (same_now r u c.advance.ensures.state c.advance.ensures.end)
-          c.advance.ensures.bound c.in-Symbol.sym c.in-Symbol.arity e (omega arith) head.means head.fits c.in_err-args-in-Symbol.ensures.reads in
+    function_breaks c.args.place c.requires.place r u c.args.depth head.text head.stands c.advance.result.now c.advance.ensures.token (same_now r u c.advance.ensures.state c.advance.ensures.end)
+    c.advance.ensures.bound c.in-Symbol.sym c.in-Symbol.arity e (omega arith) head.means head.fits c.in_err-args-in-Symbol.ensures.reads in
     grind (arith, common_steps)
 
 pub pattern-returns-in_ok-args-in-Symbol-clause-reads : goal.pattern-returns-in_ok-args-in-Symbol-clause-reads
@@ -109,7 +109,7 @@ pattern-returns-in_ok-args-in-Symbol-clause-reads t c =
     let u = c.advance.new.self in
     let head : HasHead c.args.place c.args.depth r (a_symbol c.in-Symbol.sym c.in-Symbol.arity) = subst (λ z. HasHead c.args.place c.args.depth r (meant_by z)) c.in-Symbol.is c.in_ok-pattern_head.ensures.ok in
     function_builds c.args.place c.requires.place r u c.args.depth head.text head.stands c.advance.result.now c.advance.ensures.token (same_now r u c.advance.ensures.state c.advance.ensures.end)
-      c.advance.ensures.bound c.in-Symbol.sym c.in-Symbol.arity c.in_ok-args-in-Symbol.args c.arguments.new.self (omega arith) head.means head.fits c.in_ok-args-in-Symbol.ensures.reads
+    c.advance.ensures.bound c.in-Symbol.sym c.in-Symbol.arity c.in_ok-args-in-Symbol.args c.arguments.new.self (omega arith) head.means head.fits c.in_ok-args-in-Symbol.ensures.reads
 
 pub pattern-returns-in_ok-args-in-Symbol-clause-fits : goal.pattern-returns-in_ok-args-in-Symbol-clause-fits
 pattern-returns-in_ok-args-in-Symbol-clause-fits t c =
@@ -117,4 +117,4 @@ pattern-returns-in_ok-args-in-Symbol-clause-fits t c =
     let u = c.advance.new.self in
     let head : HasHead c.args.place c.args.depth r (a_symbol c.in-Symbol.sym c.in-Symbol.arity) = subst (λ z. HasHead c.args.place c.args.depth r (meant_by z)) c.in-Symbol.is c.in_ok-pattern_head.ensures.ok in
     fits_application c.args.place r u c.arguments.new.self c.in-Symbol.sym c.in-Symbol.arity c.in_ok-args-in-Symbol.args
-      (symbol_arity (state_of r) c.args.place head.text c.in-Symbol.sym c.in-Symbol.arity head.means) c.in_ok-args-in-Symbol.ensures.count c.advance.ensures.state c.advance.ensures.bound c.advance.ensures.end c.in_ok-args-in-Symbol.ensures.fits
+    (symbol_arity (state_of r) c.args.place head.text c.in-Symbol.sym c.in-Symbol.arity head.means) c.in_ok-args-in-Symbol.ensures.count c.advance.ensures.state c.advance.ensures.bound c.advance.ensures.end c.in_ok-args-in-Symbol.ensures.fits

@@ -1,6 +1,6 @@
 use Rattle.std.proofs.Common.{arith, sym, ◌∙◌}
 use Rattle.std.proofs.lemmas.Grind.{common_steps}
-use Rattle.timbuk_grammar.specs.Grammar.{Part, many, equation, one, ◌then◌, pattern}
+use Rattle.timbuk_grammar.specs.Grammar.{many, equation, one, ◌then◌, pattern}
 use Rattle.timbuk_grammar.specs.declared.terminal.Place.TheVariants as place
 use Rattle.timbuk_grammar.specs.declared.terminal.Terminal.TheVariants as terminal
 use Rattle.timbuk_reader.specs.View.{closed}
@@ -15,7 +15,7 @@ pub returns-in_err-equation-clause-reads : goal.returns-in_err-equation-clause-r
 returns-in_err-equation-clause-reads c =
     let e = c.in_err-equation.field-0.0 in
     let stops : Stops (many equation) closed c.args.self.now e =
-        turns_err equation (terminal.Named place.EquationLeft) c.args.self.now c.loop-self.self e c.loop-self.invariant.turns head (sym c.sees.ensures.value ∙ c.loop-self-test.true) c.in_err-equation.ensures.reads in
+    turns_err equation (terminal.Named place.EquationLeft) c.args.self.now c.loop-self.self e c.loop-self.invariant.turns head (sym c.sees.ensures.value ∙ c.loop-self-test.true) c.in_err-equation.ensures.reads in
     grind (arith, common_steps)
 
 pub loop-self-preserved : goal.loop-self-preserved

@@ -1,6 +1,5 @@
 use Rattle.std.proofs.Common.{length}
-use Rattle.timbuk_grammar.specs.Grammar.{many, name, op}
-use Rattle.timbuk_grammar.specs.declared.terminal.Place.TheVariants as place
+use Rattle.timbuk_grammar.specs.Grammar.{many, op}
 use Rattle.timbuk_reader.specs.Reads.{Turns, IsFresh}
 use Rattle.timbuk_reader.proofs.state.Reader.all_ops.Given as goal
 

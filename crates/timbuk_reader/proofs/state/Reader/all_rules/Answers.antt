@@ -1,6 +1,6 @@
 use Rattle.std.proofs.Common.{arith, sym, ◌∙◌}
 use Rattle.std.proofs.lemmas.Grind.{common_steps}
-use Rattle.timbuk_grammar.specs.Grammar.{Part, many, rule, one, ◌then◌, pattern}
+use Rattle.timbuk_grammar.specs.Grammar.{many, rule, one, ◌then◌, pattern}
 use Rattle.timbuk_grammar.specs.declared.terminal.Place.TheVariants as place
 use Rattle.timbuk_grammar.specs.declared.terminal.Terminal.TheVariants as terminal
 use Rattle.timbuk_reader.specs.View.{closed}
@@ -15,7 +15,7 @@ pub returns-in_err-rule-clause-reads : goal.returns-in_err-rule-clause-reads
 returns-in_err-rule-clause-reads c =
     let e = c.in_err-rule.field-0.0 in
     let stops : Stops (many rule) closed c.args.self.now e =
-        turns_err rule (terminal.Named place.LeftSide) c.args.self.now c.loop-self.self e c.loop-self.invariant.turns head (sym c.sees.ensures.value ∙ c.loop-self-test.true) c.in_err-rule.ensures.reads in
+    turns_err rule (terminal.Named place.LeftSide) c.args.self.now c.loop-self.self e c.loop-self.invariant.turns head (sym c.sees.ensures.value ∙ c.loop-self-test.true) c.in_err-rule.ensures.reads in
     grind (arith, common_steps)
 
 pub loop-self-preserved : goal.loop-self-preserved

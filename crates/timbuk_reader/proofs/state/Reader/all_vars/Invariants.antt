@@ -1,7 +1,7 @@
 use Rattle.std.proofs.Common.{length}
-use Rattle.timbuk_grammar.specs.Grammar.{many, name, op}
+use Rattle.timbuk_grammar.specs.Grammar.{many, name}
 use Rattle.timbuk_grammar.specs.declared.terminal.Place.TheVariants as place
-use Rattle.timbuk_reader.specs.Reads.{Turns, IsFresh}
+use Rattle.timbuk_reader.specs.Reads.{Turns}
 use Rattle.timbuk_reader.proofs.state.Reader.all_vars.Given as goal
 
 abbrev pub invariant-loop-self : goal.invariant-loop-self

@@ -1,9 +1,9 @@
-use Rattle.std.proofs.Common.{◌≡◌, ◌≤◌, ◌<◌, ◌++◌, ◌∷◌, [], min, true, false, length, arith, refl, sym, ap, ◌∙◌}
+use Rattle.std.proofs.Common.{◌≡◌, ◌≤◌, ◌<◌, min, arith, refl, ap, ◌∙◌}
 use Rattle.timbuk_grammar.specs.declared.terminal.Terminal.TheVariants as terminal
 use Rattle.timbuk_reader.specs.declared.fault.SpecKind.TheVariants as kind
 use Rattle.timbuk_reader.specs.declared.fault.LimitName.TheVariants as limit
 use Rattle.timbuk_reader.specs.Declarations.{adds, value_of}
-use Rattle.timbuk_reader.specs.View.{closed, naming, state_of, declared}
+use Rattle.timbuk_reader.specs.View.{closed, naming, declared}
 use Rattle.timbuk_reader.proofs.StepsTokens.{word_leads, word_stops, naming_calm}
 use Rattle.timbuk_reader.proofs.StepsNames.{large_number, small_number}
 use Rattle.timbuk_reader.proofs.ReaderFresh.{fresh_rules, fresh_equations, fresh_entries, fresh_initial, fresh_second}

@@ -1,5 +1,6 @@
 use Rattle.std.proofs.Common.{length}
-use Rattle.timbuk_reader.specs.ApproximationReads.{NoLonger, OnlyEntries}
+use Rattle.timbuk_reader.specs.AutomatonReads.{NoLonger}
+use Rattle.timbuk_reader.specs.ApproximationReads.{OnlyEntries}
 use Rattle.timbuk_reader.proofs.StepsApproximationRules.{Enters}
 use Rattle.timbuk_reader.proofs.state.Reader.entries.Given as goal
 

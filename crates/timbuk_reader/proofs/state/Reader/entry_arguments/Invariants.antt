@@ -1,5 +1,6 @@
 use Rattle.std.proofs.Common.{◌≤◌, length}
-use Rattle.timbuk_reader.specs.ApproximationReads.{NoLonger, OnlyTokens, IsStarted, SameHead}
+use Rattle.timbuk_reader.specs.AutomatonReads.{NoLonger}
+use Rattle.timbuk_reader.specs.ApproximationReads.{OnlyTokens, IsStarted, SameHead}
 use Rattle.timbuk_reader.proofs.StepsApproximationRules.{Argues}
 use Rattle.timbuk_reader.proofs.state.Reader.entry_arguments.Given as goal
 

@@ -1,4 +1,4 @@
-use Rattle.std.proofs.Common.{◌≡◌, ◌<◌, ◌≤◌, ℕ, false, sym, ◌∙◌, arith, refl}
+use Rattle.std.proofs.Common.{◌≡◌, ◌<◌, false, sym, ◌∙◌, arith}
 use Rattle.std.proofs.lemmas.Grind.{common_steps}
 use Rattle.timbuk_grammar.specs.declared.terminal.Terminal.TheVariants as terminal
 use Rattle.timbuk_reader.specs.View.{sees}
@@ -24,7 +24,7 @@ returns-in_err-name-clause-err c =
 pub returns-in-Some-clause-err : goal.returns-in-Some-clause-err
 returns-in-Some-clause-err c =
     name_breaks c.args.place c.requires.place c.args.self.now c.args.depth c.in_ok-name.name.now (meant_by c.meaning-meaning.result) c.in-Some.kind c.refusal-in-Some.result
-      c.in_ok-name.ensures.ok (sym c.meaning-meaning.ensures) (sym c.pattern_fault.ensures ∙ c.in-Some.is) c.refusal-in-Some.ensures
+    c.in_ok-name.ensures.ok (sym c.meaning-meaning.ensures) (sym c.pattern_fault.ensures ∙ c.in-Some.is) c.refusal-in-Some.ensures
 
 pub returns-in-None-clause-ok : goal.returns-in-None-clause-ok
 returns-in-None-clause-ok c = record {

@@ -1,6 +1,5 @@
-use Rattle.std.proofs.Common.{◌≡◌, refl, sym, ap, ◌∙◌, arith}
+use Rattle.std.proofs.Common.{arith}
 use Rattle.std.proofs.lemmas.Grind.{common_steps}
-use Rattle.timbuk_reader.specs.Declarations.{Declared}
 use Rattle.timbuk_reader.specs.View.{state_of}
 use Rattle.timbuk_reader.specs.Patterns.{Breaks}
 use Rattle.timbuk_reader.proofs.ReaderMeanings.{state_below}
@@ -16,7 +15,7 @@ returns-in_err-leaf-clause-reads c =
     let head = c.requires.head in
     let paren = c.in_err-leaf.ensures in
     let breaks : Breaks c.args.place c.args.depth r e =
-        state_breaks c.args.place c.requires.place r u c.args.depth head.text head.stands paren.advanced.token paren.advanced.tokens (same_now r u paren.advanced.state paren.advanced.end) c.args.state e head.means head.fits paren.seen paren.told in
+    state_breaks c.args.place c.requires.place r u c.args.depth head.text head.stands paren.advanced.token paren.advanced.tokens (same_now r u paren.advanced.state paren.advanced.end) c.args.state e head.means head.fits paren.seen paren.told in
     grind (arith, common_steps)
 
 pub returns-clause-reads : goal.returns-clause-reads

@@ -1,5 +1,4 @@
-use Rattle.std.proofs.Common.{◌≡◌, refl, sym, ap, ◌∙◌, subst}
-use Rattle.ranked_terms.specs.Terms.{occurrences}
+use Rattle.std.proofs.Common.{◌≡◌, sym, ap, ◌∙◌, subst}
 use Rattle.ta_core.specs.SpecRules.{shape_occurrences}
 use Rattle.timbuk_reader.specs.Naming.{shape_of}
 use Rattle.timbuk_reader.specs.Patterns.{Builds, Binds, IsNoVariable}
@@ -10,8 +9,8 @@ pub returns-clause-reads : goal.returns-clause-reads
 returns-clause-reads c =
     let r = c.args.self.now in
     let u = c.pattern.new.self in
-    let side = c.in_ok-pattern_of.field-0 in
-    let is : shape_of side ≡ c.in_ok-shape.shape = c.in_ok-pattern_of.ensures in
+    let side = c.in-Some.side in
+    let is : shape_of side ≡ c.in_ok-shape.shape = rw c.in-Some.is at c.in_ok-side.ensures in
     let read = c.in_ok-shape.ensures in
     record {
       builds = subst (λ s. Builds c.args.place 0 r s u) (sym is) read.reads;

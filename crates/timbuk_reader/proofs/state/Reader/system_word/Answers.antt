@@ -1,8 +1,8 @@
-use Rattle.std.proofs.Common.{◌≡◌, ℕ, List, ◌∷◌, true, refl, sym, ap, ◌∙◌, arith, subst}
-use Rattle.timbuk_lex.specs.declared.lexeme.Lexeme.{Lexeme}
+use Rattle.std.proofs.Common.{◌≡◌, true, refl, sym, ap, ◌∙◌, arith}
 use Rattle.timbuk_grammar.specs.declared.terminal.Terminal.TheVariants as terminal
 use Rattle.timbuk_grammar.specs.Matching.{matches}
-use Rattle.timbuk_reader.specs.View.{closed, sees}
+use Rattle.timbuk_reader.specs.Declarations.{Declared}
+use Rattle.timbuk_reader.specs.View.{closed}
 use Rattle.timbuk_reader.proofs.StepsTokens.{mark_stops, closed_calm}
 use Rattle.timbuk_reader.proofs.ReaderRules.{seen_first, system_stops, system_leads}
 use Rattle.timbuk_reader.proofs.state.Reader.system_word.Goals as goal
@@ -22,4 +22,4 @@ returns-clause-reads c =
     let r = c.args.self.now in
     let u = c.advance.new.self in
     let seen : matches terminal.Trs c.advance.result.now ≡ true = rw c.advance.ensures.token at (sym c.sees.ensures.value ∙ c.if-not-sees.false) in
-    system_leads r c.advance.result.now u.tokens.now c.advance.ensures.token _ seen (omega arith) refl c.advance.ensures.end (ap (λ d. record d { systems = 1 }) c.advance.ensures.state)
+    system_leads r c.advance.result.now u.tokens.now c.advance.ensures.token _ seen (omega arith) refl c.advance.ensures.end (ap (λ (d : Declared). record d { systems = 1 }) c.advance.ensures.state)

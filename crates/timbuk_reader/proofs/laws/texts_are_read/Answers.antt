@@ -1,0 +1,9 @@
+-- A text is read without a fault exactly where it spells a specification.
+use Rattle.timbuk_reader.proofs.TieSectionsTexts.{read_is_spelled, spelled_is_read}
+use Rattle.timbuk_reader.proofs.laws.texts_are_read.Goals as goal
+
+pub returns-clause-read : goal.returns-clause-read
+returns-clause-read c = read_is_spelled
+
+pub returns-clause-spelled : goal.returns-clause-spelled
+returns-clause-spelled c = spelled_is_read
