@@ -1,5 +1,5 @@
 -- The fault that reading meets is that of the first place at which a row fits.
-use Rattle.std.proofs.Common.{◌≡◌, ℕ, true, false, Bool, List, [], ◌∷◌, ◌++◌, Option, Some, None, Result, Ok, Err, refl, sym, ap, subst, ◌∙◌}
+use Rattle.std.proofs.Common.{◌≡◌, ℕ, false, List, [], ◌∷◌, ◌++◌, Option, Some, None, Err, refl, sym, ap, subst, ◌∙◌}
 use Rattle.std.specs.Prelude.{option_map, option_and_then}
 use Rattle.std.specs.Option.{option_map_or}
 use Rattle.timbuk_lex.specs.Lexing.{lexed}
@@ -7,15 +7,14 @@ use Rattle.timbuk_lex.specs.Places.{line_of, column_of}
 use Rattle.timbuk_lex.specs.declared.lexeme.Lexeme.{Lexeme}
 use Rattle.timbuk_lex.specs.declared.lex.Ending.{Ending}
 use Rattle.timbuk_lex.specs.declared.lex.Ending.TheVariants.{Whole, Stopped}
-use Rattle.timbuk_grammar.specs.declared.terminal.Terminal.{Terminal}
 use Rattle.timbuk_grammar.specs.Grammar.{Part, file}
-use Rattle.timbuk_grammar.specs.Next.{Choice, choice_of, terminal_of, open_after_all, may_end, empties, terminal_at, end_allowed}
+use Rattle.timbuk_grammar.specs.Next.{Choice, choice_of, terminal_of, open_after_all, may_end, end_allowed}
 use Rattle.timbuk_reader.specs.declared.fault.SpecKind.{SpecKind}
 use Rattle.timbuk_reader.specs.declared.fault.SpecKind.TheVariants as kind
 use Rattle.timbuk_reader.specs.declared.fault.SpecFault.{SpecFault}
 use Rattle.timbuk_reader.specs.Declarations.{Declared, nothing}
 use Rattle.timbuk_reader.specs.Rows.{or, when, is_closed_word, wrong_arity, expected, row, end_row}
-use Rattle.timbuk_reader.specs.Reading.{Outcome, End, end_by, ends_by, unless, behind, added, outcome, read, fault, lexical_kind}
+use Rattle.timbuk_reader.specs.Reading.{Outcome, End, end_by, ends_by, unless, behind, added, outcome, fault}
 use Rattle.timbuk_reader.specs.Faults.{declared_from, row_at, NoRowIn, EndFault, SpecFaultAt}
 use Rattle.timbuk_reader.specs.Laws.{FaultsAreFirst}
 

@@ -1,10 +1,9 @@
 -- A text that is a derivation of the grammar, read by the terminals at which its tokens stand: the grammar is looked at no more.
-use Rattle.std.proofs.Common.{◌≡◌, ℕ, true, List, [], ◌∷◌, ◌++◌, Option, Some, None, map, inl, inr}
+use Rattle.std.proofs.Common.{true, List, [], ◌∷◌, ◌++◌, Some, None, inl, inr}
 use Rattle.std.specs.Prelude.{flat_map}
 use Rattle.timbuk_lex.specs.declared.lexeme.Lexeme.{Lexeme}
 use Rattle.timbuk_grammar.specs.declared.terminal.Place.{Place}
 use Rattle.timbuk_grammar.specs.declared.terminal.Terminal.{Terminal}
-use Rattle.timbuk_grammar.specs.declared.terminal.Terminal.TheVariants as terminal
 use Rattle.timbuk_grammar.specs.Grammar.{Part, one, ◌then◌, ◌or◌, maybe, many, pattern}
 use Rattle.timbuk_grammar.specs.Trees.{Token, Tree, Trees, leaf, node, none, comma, Value}
 use Rattle.timbuk_reader.specs.Declarations.{Declared, adds}

@@ -65,6 +65,7 @@ pub mod TieSectionsFile
 pub mod TieSectionsTexts
 pub mod FirstFaults
 pub mod ReaderSpecLaws
+pub mod ReaderWhole
 pub mod StepsApproximation
 pub mod StepsApproximationNames
 pub mod StepsApproximationRules

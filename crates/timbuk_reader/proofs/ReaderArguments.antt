@@ -1,8 +1,7 @@
 -- Reading the arguments of a pattern, one step at a time.
 use Rattle.std.proofs.Math.Bool.{and-false}
-use Rattle.std.proofs.Common.{◌≡◌, ◌≢◌, ℕ, zero, suc, ◌+◌, ◌<◌, ◌≤◌, length, arith, Bool, true, false, not, ◌&&◌, ◌||◌, List, [], ◌∷◌, ◌++◌, Some, None, Ok, Err, refl, ap, sym, ◌∙◌, subst, length-append}
+use Rattle.std.proofs.Common.{◌≡◌, ℕ, ◌+◌, ◌<◌, length, arith, true, false, List, [], ◌∷◌, ◌++◌, None, Err, refl, ap, sym, ◌∙◌}
 use Rattle.std.specs.Prelude.{nat_lt, nat_le}
-use Rattle.std.specs.List.{list_all}
 use Rattle.std.proofs.lemmas.Bool.Decides.{nat_tests}
 use Rattle.ranked_terms.specs.declared.term.Shape.{Shape}
 use Rattle.ranked_terms.specs.declared.term.Shape.TheVariants as shape
@@ -14,20 +13,18 @@ use Rattle.timbuk_grammar.specs.declared.terminal.Terminal.{Terminal}
 use Rattle.timbuk_grammar.specs.declared.terminal.Terminal.TheVariants as terminal
 use Rattle.timbuk_grammar.specs.Matching.{matches}
 use Rattle.timbuk_grammar.specs.Grammar.{Part, one, many, ◌then◌, pattern, pattern_arguments}
-use Rattle.timbuk_grammar.specs.Next.{empties}
 use Rattle.timbuk_grammar.proofs.Differ as differ
 use Rattle.timbuk_reader.specs.declared.fault.SpecKind.TheVariants as kind
 use Rattle.timbuk_reader.specs.declared.fault.SpecError.{SpecError}
-use Rattle.timbuk_reader.specs.declared.fault.SpecError.TheVariants as error
 use Rattle.timbuk_reader.specs.declared.state.Reader.{Reader}
-use Rattle.timbuk_reader.specs.Declarations.{Declared, Application, any, function, placed, closes, adds}
-use Rattle.timbuk_reader.specs.Rows.{wrong_arity, wrong_count, passed, misnamed, end_row}
+use Rattle.timbuk_reader.specs.Declarations.{Declared, Application, any, function, placed, adds}
+use Rattle.timbuk_reader.specs.Rows.{wrong_arity, passed, misnamed, end_row}
 use Rattle.timbuk_reader.specs.Reading.{End, outcome, ends_by}
-use Rattle.timbuk_reader.specs.View.{Open, Shorter, declared, inside, state_of, end_of, settled, from, as_error, sees, refusal_at, end_fault, refusal}
-use Rattle.timbuk_reader.specs.Reads.{Took, Missed}
-use Rattle.timbuk_reader.specs.Patterns.{application, within, IsFirstSide, IsSpot, applied_from, filled_from, placed_from, behind, Builds, Breaks, Applies, Misapplies, Filled, LacksArguments, LacksArgument, too_few, no_comma, LacksEnd, too_many, no_end}
+use Rattle.timbuk_reader.specs.View.{Open, Shorter, declared, end_of, settled, from, as_error, sees, refusal_at, end_fault}
+use Rattle.timbuk_reader.specs.Reads.{Took}
+use Rattle.timbuk_reader.specs.Patterns.{application, within, IsFirstSide, IsSpot, applied_from, filled_from, behind, Builds, Breaks, Applies, Misapplies, Filled, LacksArguments, LacksArgument, too_few, no_comma, LacksEnd, too_many, no_end}
 use Rattle.timbuk_reader.proofs.Steps.{alike, both_alike, one_front, then_head, maybe_take, many_take, many_skip, choice_unseen}
-use Rattle.timbuk_reader.proofs.StepsTokens.{use_row, Quiet, row_other, step_on, step_wrong, step_missed, step_unexpected, step_end, mark_row, mark_adds, declared_same}
+use Rattle.timbuk_reader.proofs.StepsTokens.{use_row, Quiet, row_other, step_on, step_wrong, step_unexpected, step_end, mark_row, mark_adds, declared_same}
 use Rattle.timbuk_reader.proofs.StepsLast.{placed_after}
 use Rattle.timbuk_reader.proofs.ReaderPatterns.{argument_list}
 

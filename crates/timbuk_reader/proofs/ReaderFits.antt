@@ -1,6 +1,6 @@
 -- What is known of a shape that was read.
 use Rattle.std.proofs.Math.Bool.{and-false}
-use Rattle.std.proofs.Common.{◌≡◌, ℕ, zero, suc, ◌+◌, ◌<◌, length, get_or, Bool, true, false, ◌&&◌, ◌==◌, IsTrue, List, [], ◌∷◌, ◌++◌, map, Option, Some, None, cond, refl, ap, sym, ◌∙◌, subst, arith, append_assoc}
+use Rattle.std.proofs.Common.{◌≡◌, ℕ, zero, suc, ◌<◌, length, get_or, Bool, true, false, ◌&&◌, ◌==◌, List, [], ◌∷◌, ◌++◌, map, Option, Some, None, cond, refl, ap, sym, ◌∙◌, subst, arith, append_assoc}
 use Rattle.std.specs.Prelude.{nat_lt, not}
 use Rattle.std.specs.List.{list_all}
 use Rattle.std.proofs.lemmas.Bool.{and_parts, and_from}
@@ -8,7 +8,7 @@ use Rattle.std.proofs.lemmas.List.{length-map, append-nil, map-append}
 use Rattle.std.proofs.lemmas.Bool.Decides.{nat_tests}
 use Rattle.ranked_terms.specs.Names.{Symbol, arity_of}
 use Rattle.ranked_terms.specs.Terms.{is_symbol, is_arity, joined}
-use Rattle.ranked_terms.specs.declared.term.Shape.{Shape, roll-Shape}
+use Rattle.ranked_terms.specs.declared.term.Shape.{Shape}
 use Rattle.ranked_terms.specs.declared.term.Shape.TheOpen as layer
 use Rattle.ranked_terms.specs.declared.term.Shape.TheVariants.{Var, State, App, rolls-Var, rolls-State, rolls-App}
 use Rattle.ranked_terms.specs.declared.term.Shape.TheFolds.{fold-roll-Shape}
@@ -16,7 +16,6 @@ use Rattle.ta_core.specs.SpecRules.{shape_is_over, shape_is_over_step, shape_is_
 use Rattle.timbuk_grammar.specs.declared.terminal.Place.{Place}
 use Rattle.timbuk_grammar.specs.declared.terminal.Place.TheVariants as place
 use Rattle.timbuk_reader.specs.declared.state.Reader.{Reader}
-use Rattle.timbuk_reader.specs.declared.fault.SpecKind.{SpecKind}
 use Rattle.timbuk_reader.specs.declared.fault.SpecKind.TheVariants as kind
 use Rattle.timbuk_reader.specs.Declarations.{Declared, a_variable, has, with_variable, states_at}
 use Rattle.timbuk_reader.specs.Rows.{or, when}

@@ -1,5 +1,5 @@
 -- Where nothing is declared but symbols and variables.
-use Rattle.std.proofs.Common.{◌≡◌, true, List, [], ◌∷◌, refl, sym, ap, subst, ◌∙◌}
+use Rattle.std.proofs.Common.{◌≡◌, true, List, [], ◌∷◌, refl, sym, ap, ◌∙◌}
 use Rattle.std.specs.Prelude.{map}
 use Rattle.ranked_terms.specs.Names.{Symbol}
 use Rattle.ta_core.specs.SpecRules.{rules_are_over, equations_are_over, entries_are_over}

@@ -1,5 +1,5 @@
 -- What a name stands for, by what is found of it.
-use Rattle.std.proofs.Common.{◌≡◌, ℕ, zero, suc, ◌+◌, ◌<◌, ◌≤◌, Bool, true, false, cond, List, [], ◌∷◌, length, Option, Some, None, refl, ap, sym, ◌∙◌, subst, arith}
+use Rattle.std.proofs.Common.{◌≡◌, ℕ, zero, suc, ◌<◌, Bool, true, false, cond, List, [], ◌∷◌, length, Option, Some, None, refl, ap, sym, ◌∙◌, subst, arith}
 use Rattle.std.specs.Prelude.{position, unwrap_or, nat_lt}
 use Rattle.std.specs.List.{position_or_len}
 use Rattle.std.proofs.lemmas.List.{length-map}
@@ -7,7 +7,7 @@ use Rattle.std.proofs.lemmas.Bool.Decides.{nat_tests}
 use Rattle.std.specs.Str.{bytes_eq}
 use Rattle.ranked_terms.specs.Names.{Symbol, names_of, number_of, arity_of}
 use Rattle.timbuk_grammar.specs.declared.terminal.Place.{Place}
-use Rattle.timbuk_reader.specs.Declarations.{Text, Declared, Meaning, unknown, a_variable, a_state, a_symbol, or_else, if_allowed, as_symbol, as_variable, as_state, allows_symbol, allows_variable, states_at, meaning}
+use Rattle.timbuk_reader.specs.Declarations.{Text, Declared, Meaning, a_variable, a_state, a_symbol, or_else, if_allowed, as_symbol, as_variable, as_state, allows_symbol, allows_variable, states_at, meaning}
 
 by_symbol : (b : Bool) (o : Option ℕ) (f : ℕ) (symbols : List Symbol) (m : Meaning) → cond b o None ≡ Some f → or_else (if_allowed b (as_symbol symbols o)) m ≡ a_symbol f (unwrap_or (arity_of symbols f) 0)
 by_symbol true o f symbols m e = rw e refl

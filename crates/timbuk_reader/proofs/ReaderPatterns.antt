@@ -1,7 +1,5 @@
 -- Reading a pattern, one step at a time.
-use Rattle.std.proofs.Common.{◌≡◌, ◌≢◌, ℕ, zero, suc, ◌+◌, ◌<◌, ◌≤◌, length, arith, Bool, true, false, not, ◌&&◌, ◌||◌, List, [], ◌∷◌, ◌++◌, Option, Some, None, Ok, Err, Result, refl, ap, sym, ◌∙◌, subst}
-use Rattle.std.specs.Prelude.{nat_lt, nat_le}
-use Rattle.std.proofs.lemmas.Bool.Decides.{nat_tests}
+use Rattle.std.proofs.Common.{◌≡◌, ℕ, zero, suc, ◌<◌, arith, true, false, List, [], ◌∷◌, Some, None, Err, refl, ap, sym, ◌∙◌, subst}
 use Rattle.ranked_terms.specs.declared.term.Shape.{Shape}
 use Rattle.ranked_terms.specs.declared.term.Shape.TheVariants as shape
 use Rattle.timbuk_lex.specs.declared.lexeme.Lexeme.{Lexeme}
@@ -17,14 +15,14 @@ use Rattle.timbuk_reader.specs.declared.fault.LimitName.TheVariants as limit
 use Rattle.timbuk_reader.specs.declared.fault.SpecError.{SpecError}
 use Rattle.timbuk_reader.specs.declared.fault.SpecError.TheVariants as error
 use Rattle.timbuk_reader.specs.declared.state.Reader.{Reader}
-use Rattle.timbuk_reader.specs.Declarations.{Text, Declared, Application, Last, any, leaf, constant, function, Meaning, unknown, a_variable, a_state, a_symbol, meaning, with_variable, placed, binds, named, uses, begins_transition}
-use Rattle.timbuk_reader.specs.Rows.{wrong_arity, wrong_count, unexpected_after}
+use Rattle.timbuk_reader.specs.Declarations.{Text, Declared, Application, Last, any, leaf, constant, function, Meaning, a_variable, a_state, a_symbol, meaning, with_variable, placed, binds, named, uses, begins_transition}
+use Rattle.timbuk_reader.specs.Rows.{wrong_arity, wrong_count}
 use Rattle.timbuk_reader.specs.Reading.{End, outcome}
-use Rattle.timbuk_reader.specs.View.{Open, declared, inside, state_of, end_of, settled, from, as_error, sees, refusal_at, refusal}
-use Rattle.timbuk_reader.specs.Reads.{Stands, IsLong, HasNoWord, missed, long}
-use Rattle.timbuk_reader.specs.Patterns.{IsPatternPlace, application, within, HasRoom, IsFirstSide, IsSpot, placed_from, Builds, Breaks, Applies, Misapplies, pattern_fault, SameBut, Advanced, LeadsToParen}
+use Rattle.timbuk_reader.specs.View.{Open, declared, inside, state_of, end_of, settled, as_error, sees, refusal_at, refusal}
+use Rattle.timbuk_reader.specs.Reads.{Stands, HasNoWord, missed, long}
+use Rattle.timbuk_reader.specs.Patterns.{IsPatternPlace, application, within, IsSpot, Builds, Breaks, Applies, Misapplies, pattern_fault, SameBut}
 use Rattle.timbuk_reader.proofs.Steps.{pattern_front, then_head, maybe_skip}
-use Rattle.timbuk_reader.proofs.StepsTokens.{use_row, Quiet, row_other, long_row, step_leaf, step_on, step_fault, step_wrong}
+use Rattle.timbuk_reader.proofs.StepsTokens.{use_row, row_other, long_row, step_leaf, step_on, step_fault, step_wrong}
 use Rattle.timbuk_reader.proofs.StepsLast.{after, leaf_whole, constant_whole, IsWhole, read_after}
 use Rattle.timbuk_reader.proofs.StepsPatterns.{fault_row, meaning_is, name_quiet, adds_named, pattern_missed, pattern_closed}
 

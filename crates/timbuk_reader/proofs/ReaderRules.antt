@@ -1,17 +1,19 @@
 -- Reading rules and equations.
-use Rattle.std.proofs.Common.{◌≡◌, ◌≢◌, ◌↔◌, ℕ, zero, suc, ◌+◌, ◌<◌, ◌≤◌, length, Bool, true, false, ◌&&◌, ◌==◌, IsTrue, List, [], ◌∷◌, ◌++◌, map, Option, Some, None, Ok, Err, Result, refl, ap, sym, ◌∙◌, subst, arith}
-use Rattle.std.specs.Prelude.{option_map, nat_le, fold}
-use Rattle.std.specs.List.{list_all}
-use Rattle.std.proofs.lemmas.Bool.{and_parts, and_from}
+use Rattle.std.proofs.Common.{◌≡◌, ◌↔◌, ℕ, ◌+◌, ◌<◌, ◌≤◌, length, true, false, ◌&&◌, List, [], ◌∷◌, ◌++◌, map, Some, None, Ok, Err, Result, refl, ap, sym, ◌∙◌, subst, arith}
+use Rattle.std.specs.Prelude.{nat_le, fold, OnOk, OnErr}
+use Rattle.std.specs.List.{All}
 use Rattle.std.proofs.lemmas.Bool.Decides.{nat_tests}
 use Rattle.std.proofs.lemmas.List.{map-append}
 use Rattle.std.proofs.lemmas.Grind.{fold-append}
+use Rattle.std.proofs.lemmas.List.Elements.{All-append, All-cons, All-nil}
 use Rattle.ranked_terms.specs.Names.{Symbol}
 use Rattle.ranked_terms.specs.Terms as terms
 use Rattle.ranked_terms.specs.Terms.{pattern_is_over, occurrences, firsts, variables_of}
 use Rattle.ranked_terms.specs.declared.term.Shape.{Shape}
 use Rattle.ranked_terms.specs.declared.term.Pattern.{Pattern}
-use Rattle.trs_rules.specs.Rules.{RewriteRule, RewriteEquation, IsVariable, IsLinear, IsBound}
+use Rattle.trs_rules.specs.Rules.{RewriteRule, RewriteEquation, IsVariable, IsLinear, IsBound, IsRule}
+use Rattle.trs_rules.proofs.RuleLaws.{none_from_bound}
+use Rattle.timbuk_reader.specs.Kept.{IsKeptRule}
 use Rattle.trs_rules.specs.Variables.{first_repeat, first_free}
 use Rattle.trs_rules.specs.declared.rule.RuleFault.{RuleFault}
 use Rattle.trs_rules.specs.declared.rule.RuleFault.TheVariants as fault
@@ -29,7 +31,7 @@ use Rattle.timbuk_reader.specs.declared.fault.LimitName.TheVariants as limit
 use Rattle.timbuk_reader.specs.declared.fault.SpecError.{SpecError}
 use Rattle.timbuk_reader.specs.declared.fault.SpecError.TheVariants as error
 use Rattle.timbuk_reader.specs.declared.state.Reader.{Reader}
-use Rattle.timbuk_reader.specs.Declarations.{Declared, any, adds}
+use Rattle.timbuk_reader.specs.Declarations.{Declared, adds}
 use Rattle.timbuk_reader.specs.Rows.{passed, misnamed}
 use Rattle.timbuk_reader.specs.Reading.{outcome}
 use Rattle.timbuk_reader.specs.Naming.{shape_of}
@@ -39,8 +41,8 @@ use Rattle.timbuk_reader.specs.Patterns.{within, IsFirstSide, Builds, Breaks, Bi
 use Rattle.timbuk_reader.specs.Sides.{IsSide}
 use Rattle.timbuk_reader.proofs.Steps.{one_front, then_leads, then_stops, later_stops}
 use Rattle.timbuk_reader.proofs.StepsTokens.{IsOther, use_row, row_other, step_on, step_fault, calm_quiet, mark_leads, mark_stops}
-use Rattle.timbuk_reader.proofs.ReaderFits.{all_on}
-use Rattle.timbuk_reader.proofs.ReaderSides.{left_binds, right_binds, binds_firsts, no_variable, same_over}
+use Rattle.timbuk_reader.proofs.ReaderFits.{all_on, same_signature}
+use Rattle.timbuk_reader.proofs.ReaderSides.{left_binds, right_binds, binds_firsts, no_variable}
 
 -- ---- the sides of a declaration
 
@@ -246,3 +248,39 @@ rules_read before after new left right e sides = ap (map rule_shapes) e ∙ map-
 
 pub equations_read : (before after : List RewriteEquation) (new : RewriteEquation) (left right : Pattern) → after ≡ before ++ new ∷ [] → (new.left ≡ left) × (new.right ≡ right) → map equation_shapes after ≡ map equation_shapes before ++ (shape_of left, shape_of right) ∷ []
 equations_read before after new left right e sides = ap (map equation_shapes) e ∙ map-append equation_shapes before (new ∷ []) ∙ (λ i. map equation_shapes before ++ (shape_of (sides.0 i), shape_of (sides.1 i)) ∷ [])
+
+-- the rules that are kept, and one more
+kept_on : (before after : List RewriteRule) (new : RewriteRule) → All IsKeptRule before → after ≡ before ++ new ∷ [] → IsRule new → All IsKeptRule after
+kept_on before after new h e is =
+    let kept : IsKeptRule new = record {
+      left_is_no_variable = is.left_is_no_variable;
+      left_is_linear = is.left_is_linear;
+      none_free = none_from_bound new.left new.right is.right_is_bound;
+      vars_are = is.vars_are;
+      vars_are_few = is.vars_are_few;
+    } in
+    subst (All IsKeptRule) (sym e) (All-append IsKeptRule before (new ∷ []) h (All-cons IsKeptRule new [] kept (All-nil IsKeptRule)))
+
+-- the same where there may be no memory for it
+pub kept_push : {X E : Type 0} (result : Result X E) (before after : List RewriteRule) (new : RewriteRule) → OnOk result (after ≡ before ++ new ∷ []) → OnErr result (after ≡ before) → All IsKeptRule before → IsRule new → All IsKeptRule after
+kept_push (Ok x) before after new ok err h is = kept_on before after new h ok is
+kept_push (Err e) before after new ok err h is = subst (All IsKeptRule) (sym err) h
+
+-- the signature of the last reader is that of the first
+module _ (start m v u : Reader) (first : SameBut start m) (t : Terminal) (k : Took t m v) (second : SameBut v u) where
+  same_end_signature : u.signature ≡ v.signature
+  same_end_signature = same_signature v u second
+
+  same_whole_signature : u.signature ≡ start.signature
+  same_whole_signature = same_end_signature ∙ ap (λ (d : Declared). d.symbols) k.state ∙ same_signature start m first
+
+  side_over : (left right : Pattern) → pattern_is_over start.signature left ≡ true → pattern_is_over v.signature right ≡ true → (pattern_is_over u.signature left ≡ true) × (pattern_is_over u.signature right ≡ true)
+  side_over left right l r = (ap (λ s. pattern_is_over s left) same_whole_signature ∙ l, ap (λ s. pattern_is_over s right) same_end_signature ∙ r)
+
+  -- rules, and one more where there is memory for it
+  pub rules_push : {X E : Type 0} (result : Result X E) (left right : Pattern) (after : List RewriteRule) (new : RewriteRule) → pattern_is_over start.signature left ≡ true → pattern_is_over v.signature right ≡ true → (new.left ≡ left) × (new.right ≡ right)
+      → OnOk result (after ≡ u.rules ++ new ∷ []) → OnErr result (after ≡ u.rules) → rules_are_over u.signature after ≡ true
+  rules_push (Ok x) left right after new l r sides ok err =
+      let over = side_over left right l r in
+      ap (rules_are_over u.signature) ok ∙ rules_on u.signature u.rules new u.rules_over (ap (pattern_is_over u.signature) sides.0 ∙ over.0) (ap (pattern_is_over u.signature) sides.1 ∙ over.1)
+  rules_push (Err e) left right after new l r sides ok err = ap (rules_are_over u.signature) err ∙ u.rules_over

@@ -1,7 +1,7 @@
 -- Sides of rules and of equations, as shapes and as patterns.
-use Rattle.std.proofs.Common.{◌≡◌, ℕ, zero, suc, ◌+◌, ◌<◌, ◌≤◌, length, Bool, true, false, not, ◌&&◌, ◌==◌, cond, IsTrue, List, [], ◌∷◌, ◌++◌, map, Option, Some, None, refl, ap, sym, ◌∙◌, subst, arith, append_assoc}
-use Rattle.std.specs.Prelude.{find, fold, is_some, position}
-use Rattle.std.specs.List.{list_all, list_any}
+use Rattle.std.proofs.Common.{◌≡◌, ℕ, Bool, true, false, ◌&&◌, ◌==◌, cond, List, [], ◌∷◌, ◌++◌, map, Some, None, refl, ap, sym, ◌∙◌, subst, append_assoc}
+use Rattle.std.specs.Prelude.{fold}
+use Rattle.std.specs.List.{list_all}
 use Rattle.std.proofs.lemmas.List.{length-map, append-nil}
 use Rattle.ranked_terms.specs.Names.{Symbol}
 use Rattle.ranked_terms.specs.Terms as terms
@@ -13,7 +13,7 @@ use Rattle.ranked_terms.specs.declared.term.Pattern.TheOpen as layer
 use Rattle.ranked_terms.specs.declared.term.Pattern.TheVariants.{Var, App, rolls-Var, rolls-App}
 use Rattle.ranked_terms.specs.declared.term.Pattern.TheFolds.{fold-roll-Pattern}
 use Rattle.trs_rules.specs.Rules.{IsVariable}
-use Rattle.trs_rules.specs.Variables.{repeat_after, first_repeat, first_free, is_in}
+use Rattle.trs_rules.specs.Variables.{repeat_after, first_free, is_in}
 use Rattle.trs_rules.proofs.TermLaws.{Each, pattern_induction, occurrences_var, occurrences_app, over_app}
 use Rattle.ta_core.specs.SpecRules.{shape_is_over, shape_occurrences}
 use Rattle.timbuk_grammar.specs.declared.terminal.Place.{Place}

@@ -1,5 +1,5 @@
 -- The tokens that are left, and their words.
-use Rattle.std.proofs.Common.{◌≡◌, ◌≢◌, ◌<◌, ◌≤◌, ◌-◌, ℕ, suc, zero, ◌∷◌, length, List, [], take, drop, refl, sym, ap, subst, ◌∙◌, arith, Result, Ok, Err, MatchResult, Bor, IsOk}
+use Rattle.std.proofs.Common.{◌≡◌, ◌<◌, ◌≤◌, ◌-◌, ℕ, ◌∷◌, length, List, [], take, drop, refl, sym, subst, arith, Result, Ok, Err, MatchResult, Bor, IsOk}
 use Rattle.std.specs.Prelude.{All}
 use Rattle.std.specs.Str.{IsUtf8, IsValidUpTo, valid_up_to}
 use Rattle.std.specs.declared.str.Utf8Error.{Utf8Error}

@@ -1,28 +1,22 @@
 -- One token, and one part, of what is read.
-use Rattle.std.proofs.Common.{◌≡◌, ℕ, ◌+◌, ◌<◌, ◌≤◌, length, arith, Bool, true, false, not, ◌&&◌, ◌||◌, cond, List, [], ◌∷◌, ◌++◌, Option, Some, None, Ok, Err, Result, refl, ap, sym, ◌∙◌, subst, append_assoc}
-use Rattle.std.specs.Prelude.{find, option_map}
+use Rattle.std.proofs.Common.{◌≡◌, Bool, true, false, ◌&&◌, cond, List, [], ◌∷◌, ◌++◌, Option, Some, None, Ok, Err, Result, refl, ap, sym, ◌∙◌, append_assoc}
+use Rattle.std.specs.Prelude.{find}
 use Rattle.std.specs.List.{list_all}
-use Rattle.std.specs.Option.{option_or}
-use Rattle.std.proofs.lemmas.List.Folds.{find-append}
 use Rattle.std.proofs.lemmas.List.{append-nil}
 use Rattle.timbuk_lex.specs.declared.lexeme.Lexeme.{Lexeme}
 use Rattle.timbuk_grammar.specs.declared.terminal.Place.{Place}
 use Rattle.timbuk_grammar.specs.declared.terminal.Terminal.{Terminal}
 use Rattle.timbuk_grammar.specs.declared.terminal.Terminal.TheVariants as terminal
 use Rattle.timbuk_grammar.specs.Matching.{matches}
-use Rattle.timbuk_grammar.specs.Grammar.{Part, one, ◌then◌, ◌or◌, maybe, many, pattern, pattern_arguments}
+use Rattle.timbuk_grammar.specs.Grammar.{Part, one, ◌then◌, maybe, many, pattern, pattern_arguments}
 use Rattle.timbuk_grammar.specs.Next.{empties, Choice, begins, choices, choice_of}
-use Rattle.timbuk_reader.specs.declared.fault.SpecKind.{SpecKind}
-use Rattle.timbuk_reader.specs.declared.fault.SpecKind.TheVariants as kind
-use Rattle.timbuk_reader.specs.declared.fault.SpecFault.{SpecFault}
 use Rattle.timbuk_reader.specs.declared.fault.SpecError.{SpecError}
-use Rattle.timbuk_reader.specs.declared.fault.SpecError.TheVariants as error
 use Rattle.timbuk_reader.specs.declared.state.Reader.{Reader}
 use Rattle.timbuk_reader.specs.Declarations.{Declared}
 use Rattle.timbuk_lex.specs.declared.lex.Ending.{Ending}
 use Rattle.timbuk_lex.specs.declared.lex.Ending.TheVariants.{Whole, Stopped}
 use Rattle.timbuk_reader.specs.Rows.{row, end_row}
-use Rattle.timbuk_reader.specs.Reading.{Outcome, End, outcome, ends_by, end_by, unless, behind, added, terminal_of}
+use Rattle.timbuk_reader.specs.Reading.{End, outcome, ends_by, end_by, unless, behind, added, terminal_of}
 use Rattle.timbuk_reader.specs.View.{Open, closed, declared, end_of, settled, from, as_error, sees}
 use Rattle.timbuk_reader.specs.Reads.{Leads, Stops, Reads, Turns}
 

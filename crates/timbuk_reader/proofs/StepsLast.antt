@@ -1,5 +1,5 @@
 -- The last token decides on the next alone.
-use Rattle.std.proofs.Common.{◌≡◌, ℕ, zero, suc, ◌+◌, Bool, true, false, not, ◌&&◌, ◌||◌, ◌==◌, cond, List, [], ◌∷◌, ◌++◌, Option, Some, None, refl, ap, sym, ◌∙◌}
+use Rattle.std.proofs.Common.{◌≡◌, ℕ, zero, suc, Bool, true, false, ◌&&◌, ◌==◌, cond, List, [], ◌∷◌, ◌++◌, Option, Some, None, refl, ap, sym, ◌∙◌}
 use Rattle.std.specs.Prelude.{position, option_map}
 use Rattle.std.specs.List.{list_all}
 use Rattle.std.specs.Str.{bytes_eq}
@@ -20,8 +20,8 @@ use Rattle.timbuk_grammar.specs.Next.{empties, Choice, choice_of}
 use Rattle.timbuk_reader.specs.Declarations.{states_at, or_else, if_allowed, allows_symbol, allows_variable, as_symbol, as_variable, as_state, Text, Declared, Started, Application, Last, any, leaf, constant, function, Head, no_head, state_head, symbol_head, Meaning, unknown, a_variable, a_state, a_symbol, meaning, current, with_current, ends, add_rule, add_equation, add_transition, add_entry, uses, whole, placed_in, placed, binds, has, with_variable, begins_transition, named, closes, adds}
 use Rattle.timbuk_reader.specs.declared.fault.SpecKind.{SpecKind}
 use Rattle.timbuk_reader.specs.declared.fault.SpecKind.TheVariants as kind
-use Rattle.timbuk_reader.specs.Rows.{or, when, row, wrong_arity, wrong_after, expected, unexpected_after, long_name, too_deep, one_too_many, over, meant, passed, is_use, is_unknown, is_double, variable_left, stands_twice, is_free, misnamed, end_row, at_terminal, is_closed_word}
-use Rattle.timbuk_reader.specs.Reading.{Outcome, End, outcome, ends_by, end_by, unless, behind, added, terminal_of}
+use Rattle.timbuk_reader.specs.Rows.{or, when, row, wrong_arity, expected, long_name, too_deep, one_too_many, over, meant, passed, is_use, is_unknown, is_double, variable_left, stands_twice, is_free, misnamed, end_row, at_terminal, is_closed_word}
+use Rattle.timbuk_reader.specs.Reading.{End, outcome, ends_by, end_by, unless, behind, added, terminal_of}
 use Rattle.timbuk_reader.specs.View.{settled, sees}
 
 -- the same declarations after another last token

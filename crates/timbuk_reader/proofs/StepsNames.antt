@@ -1,20 +1,17 @@
 -- The rows of names that are declared.
-use Rattle.std.proofs.Common.{◌≡◌, ℕ, ◌+◌, ◌<◌, ◌≤◌, length, arith, Bool, true, false, not, ◌&&◌, ◌||◌, ◌==◌, cond, List, [], ◌∷◌, ◌++◌, Option, Some, None, refl, ap, sym, ◌∙◌, subst}
-use Rattle.std.specs.Prelude.{option_map, nat_lt, nat_le, is_some, position, min}
-use Rattle.std.specs.List.{list_any}
+use Rattle.std.proofs.Common.{◌≡◌, ℕ, ◌<◌, ◌≤◌, length, arith, Bool, true, false, ◌||◌, List, ◌++◌, Option, Some, None, refl, sym, ◌∙◌}
+use Rattle.std.specs.Prelude.{option_map, nat_lt, nat_le, is_some, position}
 use Rattle.std.specs.Str.{bytes_eq}
 use Rattle.std.proofs.lemmas.Bool.Decides.{nat_tests}
 use Rattle.std.proofs.lemmas.List.Folds.{list_any-append}
 use Rattle.timbuk_grammar.specs.declared.terminal.Place.{Place}
 use Rattle.timbuk_grammar.specs.declared.terminal.Place.TheVariants as place
 use Rattle.timbuk_grammar.specs.declared.terminal.Terminal.TheVariants as terminal
-use Rattle.timbuk_reader.specs.declared.fault.SpecKind.{SpecKind}
 use Rattle.timbuk_reader.specs.declared.fault.SpecKind.TheVariants as kind
 use Rattle.timbuk_reader.specs.declared.fault.LimitName.{LimitName}
 use Rattle.timbuk_reader.specs.declared.fault.LimitName.TheVariants as limit
-use Rattle.ranked_terms.specs.Names.{names_of, number_of}
-use Rattle.timbuk_reader.specs.Declarations.{Text, Declared, meaning, value_of, current}
-use Rattle.timbuk_reader.specs.Rows.{or, when, passed, misnamed, over, is_double, is_in, long_name}
+use Rattle.timbuk_reader.specs.Declarations.{Text, Declared, meaning, value_of}
+use Rattle.timbuk_reader.specs.Rows.{or, when, passed, misnamed, over, is_double, is_in}
 use Rattle.timbuk_reader.proofs.StepsTokens.{use_row}
 use Rattle.timbuk_reader.proofs.ReaderNames.{is_some_position}
 

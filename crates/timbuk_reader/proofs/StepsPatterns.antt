@@ -1,12 +1,10 @@
 -- A name in a pattern.
 use Rattle.std.proofs.Math.Bool.{and-false, and-true, or-false}
-use Rattle.std.proofs.Common.{◌≡◌, ◌≢◌, ℕ, zero, suc, ◌+◌, ◌<◌, ◌≤◌, length, arith, add-zero, Bool, true, false, not, ◌&&◌, ◌||◌, ◌==◌, cond, List, [], ◌∷◌, ◌++◌, Option, Some, None, Ok, Err, Result, refl, ap, sym, ◌∙◌, subst}
-use Rattle.std.specs.Prelude.{map, option_map, nat_lt, nat_le}
-use Rattle.std.specs.List.{list_all}
+use Rattle.std.proofs.Common.{◌≡◌, ℕ, suc, ◌<◌, ◌≤◌, length, arith, add-zero, Bool, true, false, not, ◌&&◌, ◌==◌, cond, List, [], ◌∷◌, Option, Some, None, Err, refl, ap, sym, ◌∙◌}
+use Rattle.std.specs.Prelude.{option_map, nat_lt, nat_le}
 use Rattle.std.proofs.lemmas.List.{length-map}
 use Rattle.std.proofs.lemmas.Bool.Decides.{nat_tests}
 use Rattle.ranked_terms.specs.declared.term.Shape.{Shape}
-use Rattle.ranked_terms.specs.declared.term.Shape.TheVariants as shape
 use Rattle.timbuk_lex.specs.declared.lexeme.Lexeme.{Lexeme}
 use Rattle.timbuk_grammar.specs.Vocabulary.{is_reserved}
 use Rattle.timbuk_grammar.specs.declared.terminal.Place.{Place}
@@ -14,21 +12,18 @@ use Rattle.timbuk_grammar.specs.declared.terminal.Place.TheVariants as place
 use Rattle.timbuk_grammar.specs.declared.terminal.Terminal.TheVariants as terminal
 use Rattle.timbuk_grammar.specs.Matching.{matches}
 use Rattle.timbuk_grammar.specs.Grammar.{Part, pattern, pattern_arguments}
-use Rattle.timbuk_grammar.specs.Next.{empties}
 use Rattle.timbuk_grammar.proofs.Differ as differ
-use Rattle.timbuk_reader.specs.declared.fault.SpecKind.{SpecKind}
 use Rattle.timbuk_reader.specs.declared.fault.SpecKind.TheVariants as kind
 use Rattle.timbuk_reader.specs.declared.fault.LimitName.{LimitName}
 use Rattle.timbuk_reader.specs.declared.fault.LimitName.TheVariants as limit
 use Rattle.timbuk_reader.specs.declared.state.Reader.{Reader}
 use Rattle.timbuk_reader.specs.Declarations.{Text, Declared, Application, any, Meaning, unknown, a_variable, a_state, a_symbol, meaning, has, named, adds}
-use Rattle.timbuk_reader.specs.Rows.{or, when, wrong_arity, wrong_count, unexpected_after, passed, misnamed, too_deep, one_too_many, over, variable_left, stands_twice, is_free, is_unknown, none_open, none_whole}
+use Rattle.timbuk_reader.specs.Rows.{or, when, wrong_arity, wrong_count, passed, misnamed, too_deep, one_too_many, over, variable_left, stands_twice, is_free, is_unknown, none_open, none_whole}
 use Rattle.timbuk_reader.specs.Reading.{End, outcome}
-use Rattle.timbuk_reader.specs.View.{declared, state_of, end_of, sees, refusal_at}
-use Rattle.timbuk_reader.specs.Reads.{Stands, IsLong, HasNoWord, missed, long}
-use Rattle.timbuk_reader.specs.Patterns.{IsPatternPlace, within, HasRoom, IsFirstSide, IsSpot, side_limit, pattern_limit, misuse, pattern_fault}
+use Rattle.timbuk_reader.specs.View.{declared, state_of, sees, refusal_at}
+use Rattle.timbuk_reader.specs.Patterns.{IsPatternPlace, within, HasRoom, IsFirstSide, side_limit, pattern_limit, misuse, pattern_fault}
 use Rattle.timbuk_reader.proofs.Steps.{pattern_front, choice_unseen}
-use Rattle.timbuk_reader.proofs.StepsTokens.{use_row, Quiet, row_other, step_on, step_fault, step_wrong, step_unexpected, step_end}
+use Rattle.timbuk_reader.proofs.StepsTokens.{use_row, Quiet, step_wrong, step_unexpected, step_end}
 
 -- ---- what is open, as numbers
 

@@ -18,7 +18,7 @@ use Rattle.timbuk_reader.specs.declared.state.Reader.{Reader}
 use Rattle.timbuk_reader.specs.Declarations.{Declared, any}
 use Rattle.timbuk_reader.specs.Rows.{when, end_row}
 use Rattle.timbuk_reader.specs.Reading.{End, fault, outcome, ends_by, end_by}
-use Rattle.timbuk_reader.specs.View.{closed, end_of, state_of, as_error, end_fault, refusal_at, refusal, sees}
+use Rattle.timbuk_reader.specs.View.{closed, end_of, state_of, settled, as_error, end_fault, refusal_at, refusal, sees}
 use Rattle.timbuk_reader.specs.Reads.{Leads, Stops, Turns}
 use Rattle.timbuk_reader.specs.SectionReads.{word_of, part_of, BeginsNone, at_end}
 use Rattle.timbuk_reader.proofs.Steps.{same_choice, same_end}
@@ -49,13 +49,13 @@ section_skip ps end d (x ∷ xs) h = same_choice (many section ∷ ps) ps end d 
 -- ---- as many sections as there are
 
 pub sections_again : (s : Section) (r m u : Reader) → Turns (many section) r (many section) m → sees (word_of s) m.tokens.now ≡ true → Leads (part_of s) closed m closed u → Turns (many section) r (many section) u
-sections_again s r m u k e l = record { by = λ ps. k.by ps ∙ section_take s ps (end_of m) (state_of m) m.tokens.now e ∙ l.by (many section ∷ ps) }
+sections_again s r m u k e l = record { by = λ ps. k.by ps ∙ ap settled (section_take s ps (end_of m) (state_of m) m.tokens.now e) ∙ l.by (many section ∷ ps) }
 
 pub sections_stop : (r m : Reader) → Turns (many section) r (many section) m → BeginsNone m.tokens.now → Leads (many section) closed r closed m
-sections_stop r m k h = record { by = λ ps. k.by ps ∙ section_skip ps (end_of m) (state_of m) m.tokens.now h }
+sections_stop r m k h = record { by = λ ps. k.by ps ∙ ap settled (section_skip ps (end_of m) (state_of m) m.tokens.now h) }
 
 pub sections_err : (s : Section) (r m : Reader) (e : SpecError) → Turns (many section) r (many section) m → sees (word_of s) m.tokens.now ≡ true → Stops (part_of s) closed m e → Stops (many section) closed r e
-sections_err s r m e k h l = record { by = λ ne ps. ap as_error (k.by ps ∙ section_take s ps (end_of m) (state_of m) m.tokens.now h) ∙ l.by ne (many section ∷ ps) }
+sections_err s r m e k h l = record { by = λ ne ps. ap as_error (k.by ps ∙ ap settled (section_take s ps (end_of m) (state_of m) m.tokens.now h)) ∙ l.by ne (many section ∷ ps) }
 
 -- ---- the end
 
@@ -73,18 +73,18 @@ no_token (x ∷ xs) e = grind (arith, nat_tests)
 
 -- a token behind the last section
 pub end_at_token : (r : Reader) → r.tokens.now ≢ [] → as_error (at_end r) ≡ Err (error.Fault (refusal kind.Expected r))
-end_at_token r ne = ap as_error (token_refused (end_of r) (state_of r) r.tokens.now refl refl ne)
+end_at_token r ne = ap (λ z. as_error (settled z)) (token_refused (end_of r) (state_of r) r.tokens.now refl refl ne)
 
 -- a byte that begins no token
 pub end_at_byte : (r : Reader) → r.tokens.now ≡ [] → r.ending ≢ Whole → as_error (at_end r) ≡ Err (error.Fault (refusal kind.Expected r))
 end_at_byte r e ne =
-    ap as_error (ap (outcome (end_of r) [] (state_of r)) e ∙ byte_refused r.ending (end_of r) (state_of r) ne ∙ ap (λ xs. Err (refusal_at kind.Expected (end_of r) xs)) (sym e))
+    ap (λ z. as_error (settled z)) (ap (outcome (end_of r) [] (state_of r)) e ∙ byte_refused r.ending (end_of r) (state_of r) ne ∙ ap (λ xs. Err (refusal_at kind.Expected (end_of r) xs)) (sym e))
 
 -- the end, where nothing is open
-end_reached : (r : Reader) (none : Bool) → r.tokens.now ≡ [] → r.ending ≡ Whole → (r.automata == 0) ≡ none → at_end r ≡ end_by (when none kind.NoInitial) (end_of r) (state_of r)
+end_reached : (r : Reader) (none : Bool) → r.tokens.now ≡ [] → r.ending ≡ Whole → (r.automata == 0) ≡ none → at_end r ≡ settled (end_by (when none kind.NoInitial) (end_of r) (state_of r))
 unfolding end_row
 end_reached r none e w z =
-    ap (outcome (end_of r) [] (state_of r)) e ∙ ap (λ ending. ends_by ending (end_of r) [] (state_of r)) w ∙ ap (λ b. end_by (when b kind.NoInitial) (end_of r) (state_of r)) z
+    ap settled (ap (outcome (end_of r) [] (state_of r)) e ∙ ap (λ ending. ends_by ending (end_of r) [] (state_of r)) w ∙ ap (λ b. end_by (when b kind.NoInitial) (end_of r) (state_of r)) z)
 
 -- no automaton
 pub end_without_automaton : (r : Reader) → r.tokens.now ≡ [] → r.ending ≡ Whole → r.automata ≡ 0 → as_error (at_end r) ≡ Err (error.Fault (fault kind.NoInitial r.line r.column))

@@ -1,5 +1,5 @@
 -- The first row that fits one token.
-use Rattle.std.proofs.Common.{◌≡◌, ◌≢◌, ◌⊎◌, inl, inr, ℕ, ◌+◌, ◌<◌, ◌≤◌, length, arith, Bool, true, false, not, ◌&&◌, ◌||◌, ◌==◌, cond, List, [], ◌∷◌, ◌++◌, Option, Some, None, Ok, Err, Result, refl, ap, sym, ◌∙◌, subst}
+use Rattle.std.proofs.Common.{◌≡◌, ◌<◌, length, arith, Bool, true, false, not, ◌&&◌, ◌||◌, ◌==◌, List, [], ◌∷◌, Option, Some, None, Ok, Err, Result, refl, ap, sym, ◌∙◌}
 use Rattle.std.specs.Prelude.{codes, option_map, nat_lt, is_none}
 use Rattle.std.specs.List.{list_all, list_any}
 use Rattle.std.specs.Char.{is_ascii_digit}
@@ -21,15 +21,14 @@ use Rattle.timbuk_grammar.proofs.Differ as differ
 use Rattle.timbuk_reader.specs.declared.fault.SpecKind.{SpecKind}
 use Rattle.timbuk_reader.specs.declared.fault.SpecKind.TheVariants as kind
 use Rattle.timbuk_reader.specs.declared.fault.LimitName.TheVariants as limit
-use Rattle.timbuk_reader.specs.declared.fault.SpecFault.{SpecFault}
 use Rattle.timbuk_reader.specs.declared.fault.SpecError.{SpecError}
 use Rattle.timbuk_reader.specs.declared.fault.SpecError.TheVariants as error
 use Rattle.timbuk_reader.specs.declared.state.Reader.{Reader}
 use Rattle.timbuk_reader.specs.Declarations.{Text as Bytes, Declared, any, adds}
-use Rattle.timbuk_reader.specs.Rows.{row, or, when, is_closed_word, wrong_arity, unexpected_after, expected, at_terminal, passed, misnamed, long_name, end_row}
-use Rattle.timbuk_reader.specs.Reading.{Outcome, End, fault, outcome, ends_by, end_by, unless, behind, added, terminal_of}
-use Rattle.timbuk_reader.specs.View.{Open, closed, naming, declared, inside, state_of, end_of, end_fault, settled, from, as_error, sees, told, refusal_at, refusal}
-use Rattle.timbuk_reader.specs.Reads.{Leads, Stops, Reads, IsCalm, IsMark, IsWordly, Took, Takes, Missed, Stands, IsLong, HasNoWord, missed, long}
+use Rattle.timbuk_reader.specs.Rows.{row, or, when, is_closed_word, wrong_arity, unexpected_after, expected, at_terminal, passed, misnamed, end_row}
+use Rattle.timbuk_reader.specs.Reading.{End, fault, outcome, ends_by, unless, behind, added, terminal_of}
+use Rattle.timbuk_reader.specs.View.{Open, closed, naming, declared, inside, state_of, end_of, end_fault, settled, as_error, sees, told, refusal_at, refusal}
+use Rattle.timbuk_reader.specs.Reads.{Leads, Stops, Reads, IsCalm, IsMark, IsWordly, Took, Takes, Missed, Stands, HasNoWord, missed, long}
 use Rattle.timbuk_reader.proofs.Steps.{Front, choice_seen, choice_unseen, one_front}
 
 -- ---- a token that is expected is no closed word

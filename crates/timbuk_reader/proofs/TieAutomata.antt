@@ -16,7 +16,7 @@ use Rattle.timbuk_reader.specs.Naming.{IsShort, AreNewNames, place_in, IsTransit
 use Rattle.timbuk_reader.specs.Rows.{is_in}
 use Rattle.timbuk_reader.specs.Reading.{End}
 use Rattle.timbuk_reader.proofs.Labels.{Label, label, labelled, judge}
-use Rattle.timbuk_reader.proofs.TieNamesRows.{IsResting, automaton_row, room_for_automaton, short_title}
+use Rattle.timbuk_reader.proofs.TieNamesRows.{IsResting, automaton_row, room_for_automaton}
 use Rattle.timbuk_reader.proofs.TieNamesTexts.{AreNewNames-nil, position_absent}
 use Rattle.timbuk_reader.proofs.TieNamesStates.{between, between-at_rest}
 use Rattle.timbuk_reader.proofs.TieNamesLeads.{Leads, leads_by, leads_on, leads_also, leads_before, plain_leads, leads-fine, leads-only}

@@ -17,7 +17,7 @@ use Rattle.timbuk_grammar.proofs.Differ.{apart}
 use Rattle.timbuk_reader.specs.Declarations.{Text, Declared, Started, Last, any, leaf, function, Head, no_head, state_head, symbol_head, adds}
 use Rattle.timbuk_reader.specs.Source.{text_of, arguments_of}
 use Rattle.timbuk_reader.specs.Naming.{IsShort, place_in}
-use Rattle.timbuk_reader.specs.Rows.{or, wrong_after, wrong_arity, expected}
+use Rattle.timbuk_reader.specs.Rows.{wrong_after, wrong_arity, expected}
 use Rattle.timbuk_reader.proofs.Labels.{label, labelled}
 use Rattle.timbuk_reader.proofs.TieNamesRuns.{row-none, row_parts}
 use Rattle.timbuk_reader.proofs.TieNamesRows.{no_approximation, is_expected, passed_plain, misnamed_plain}

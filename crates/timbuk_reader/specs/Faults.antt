@@ -5,7 +5,6 @@ use Rattle.timbuk_lex.specs.Places.{line_of, column_of}
 use Rattle.timbuk_lex.specs.declared.lexeme.Lexeme.{Lexeme}
 use Rattle.timbuk_lex.specs.declared.lex.Ending.{Ending}
 use Rattle.timbuk_lex.specs.declared.lex.Ending.TheVariants.{Whole, Stopped}
-use Rattle.timbuk_grammar.specs.declared.terminal.Terminal.{Terminal}
 use Rattle.timbuk_grammar.specs.Grammar.{Part, file}
 use Rattle.timbuk_grammar.specs.Next.{choice_of, terminal_at, end_allowed}
 use Rattle.timbuk_reader.specs.declared.fault.SpecKind.{SpecKind}

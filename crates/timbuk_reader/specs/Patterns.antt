@@ -1,5 +1,5 @@
 -- Reading a pattern, at any depth.
-use Rattle.std.specs.Prelude.{◌≡◌, ◌≢◌, ◌<◌, ◌≤◌, ℕ, zero, Bool, true, false, not, ◌&&◌, ◌==◌, if◌then◌else◌, nat_lt, nat_le, List, [], ◌∷◌, ◌++◌, map, length, Option, Some, None, option_map, Result, Ok, Err, IsTrue}
+use Rattle.std.specs.Prelude.{◌≡◌, ◌≢◌, ◌<◌, ℕ, zero, true, false, not, ◌&&◌, ◌==◌, if◌then◌else◌, nat_lt, nat_le, List, [], ◌∷◌, map, length, Option, Some, None, option_map, Result, Ok, Err, IsTrue}
 use Rattle.std.specs.List.{list_all}
 use Rattle.ranked_terms.specs.Terms.{joined}
 use Rattle.ta_core.specs.SpecRules.{shape_is_over, shape_is_below, shape_occurrences}
@@ -17,7 +17,7 @@ use Rattle.timbuk_reader.specs.declared.fault.LimitName.TheVariants as limit
 use Rattle.timbuk_reader.specs.declared.fault.SpecError.{SpecError}
 use Rattle.timbuk_reader.specs.declared.fault.SpecError.TheVariants as error
 use Rattle.timbuk_reader.specs.declared.state.Reader.{Reader}
-use Rattle.timbuk_reader.specs.Declarations.{Text, Declared, Application, Last, any, function, Meaning, meaning, unknown, a_variable, a_symbol, has, with_variable, placed}
+use Rattle.timbuk_reader.specs.Declarations.{Text, Application, any, function, Meaning, meaning, unknown, a_variable, a_symbol, has, with_variable, placed}
 use Rattle.timbuk_reader.specs.Reading.{Outcome, outcome}
 use Rattle.timbuk_reader.specs.Rows.{or, when}
 use Rattle.timbuk_reader.specs.View.{Open, closed, declared, state_of, end_of, settled, from, as_error, refusal, sees}

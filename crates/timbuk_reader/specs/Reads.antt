@@ -1,14 +1,12 @@
 -- What the reader's functions do: what was read is what the definition has, whatever stands behind it.
-use Rattle.std.specs.Prelude.{◌≡◌, ◌≢◌, ◌<◌, ◌≤◌, ◌⊎◌, ℕ, Bool, true, false, List, [], ◌∷◌, length, Option, None, Result, Ok, Err}
+use Rattle.std.specs.Prelude.{◌≡◌, ◌≢◌, ◌<◌, ◌≤◌, true, false, List, [], ◌∷◌, length, None, Result, Ok, Err}
 use Rattle.timbuk_lex.specs.declared.lexeme.Lexeme.{Lexeme}
-use Rattle.timbuk_grammar.specs.declared.terminal.Place.{Place}
 use Rattle.timbuk_grammar.specs.declared.terminal.Terminal.{Terminal}
 use Rattle.timbuk_grammar.specs.declared.terminal.Terminal.TheVariants as terminal
 use Rattle.timbuk_grammar.specs.Matching.{matches}
 use Rattle.timbuk_grammar.specs.Grammar.{Part}
 use Rattle.timbuk_reader.specs.declared.fault.SpecKind.TheVariants as kind
 use Rattle.timbuk_reader.specs.declared.fault.LimitName.TheVariants as limit
-use Rattle.timbuk_reader.specs.declared.fault.SpecFault.{SpecFault}
 use Rattle.timbuk_reader.specs.declared.fault.SpecError.{SpecError}
 use Rattle.timbuk_reader.specs.declared.fault.SpecError.TheVariants as error
 use Rattle.timbuk_reader.specs.declared.state.Reader.{Reader}

@@ -1,5 +1,5 @@
 -- Reading a side of a rule or of an equation.
-use Rattle.std.specs.Prelude.{◌≡◌, ℕ, true, List, [], ◌∷◌, Result, Ok, Err, IsTrue}
+use Rattle.std.specs.Prelude.{Result, Ok, Err, IsTrue}
 use Rattle.ranked_terms.specs.Terms.{occurrences, pattern_is_over}
 use Rattle.ranked_terms.specs.declared.term.Pattern.{Pattern}
 use Rattle.timbuk_grammar.specs.declared.terminal.Place.{Place}

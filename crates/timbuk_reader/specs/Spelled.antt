@@ -1,5 +1,5 @@
 -- The specification that whole declarations spell (this project's own format).
-use Rattle.std.specs.Prelude.{◌≡◌, ℕ, ◌-◌, ◌==◌, nat_lt, if◌then◌else◌, List, [], map, length, filter, not, All}
+use Rattle.std.specs.Prelude.{◌≡◌, ℕ, ◌-◌, ◌==◌, nat_lt, map, length, filter, not, All}
 use Rattle.std.specs.List.{range_with_len}
 use Rattle.std.specs.Ordering.{nat_cmp}
 use Rattle.trs_rules.specs.Rules.{IsRule, IsEquation}

@@ -1,13 +1,11 @@
 -- What the reader's state declares, and what is read from there on.
-use Rattle.std.specs.Prelude.{◌≡◌, ◌<◌, ◌≤◌, ℕ, Bool, true, false, if◌then◌else◌, List, [], ◌∷◌, length, map, Result, Ok, Err}
+use Rattle.std.specs.Prelude.{◌<◌, ℕ, Bool, true, false, List, [], ◌∷◌, length, map, Result, Ok, Err}
 use Rattle.ranked_terms.specs.declared.term.Shape.{Shape}
 use Rattle.trs_rules.specs.Rules.{RewriteRule, RewriteEquation}
 use Rattle.timbuk_lex.specs.declared.lexeme.Lexeme.{Lexeme}
 use Rattle.timbuk_lex.specs.declared.lex.Ending.{Ending}
 use Rattle.timbuk_lex.specs.declared.lex.Ending.TheVariants.{Whole, Stopped}
-use Rattle.timbuk_grammar.specs.declared.terminal.Place.{Place}
 use Rattle.timbuk_grammar.specs.declared.terminal.Terminal.{Terminal}
-use Rattle.timbuk_grammar.specs.declared.terminal.Terminal.TheVariants as terminal
 use Rattle.timbuk_grammar.specs.Matching.{matches}
 use Rattle.timbuk_grammar.specs.Grammar.{Part}
 use Rattle.timbuk_reader.specs.declared.fault.SpecKind.{SpecKind}
