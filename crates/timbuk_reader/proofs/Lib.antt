@@ -66,3 +66,8 @@ pub mod TieSectionsFile
 pub mod TieSectionsTexts
 pub mod ReaderSpecLaws
 pub mod ReaderWhole
+pub mod StepsApproximation
+pub mod StepsApproximationNames
+pub mod StepsApproximationRules
+pub mod StepsApproximationSection
+pub mod ReaderApproximation

@@ -84,7 +84,7 @@ pub all_on : {A : Type 0} (test : A → Bool) (xs : List A) (x : A) → list_all
 all_on test [] x h k = rw k refl
 all_on test (y ∷ ys) x h k = let both = and_parts (test y) (list_all test ys) h in and_from (test y) (list_all test (ys ++ x ∷ [])) both.0 (all_on test ys x both.1 k)
 
-joined_on : (xs : List (List ℕ)) (x : List ℕ) → joined (xs ++ x ∷ []) ≡ joined xs ++ x
+pub joined_on : (xs : List (List ℕ)) (x : List ℕ) → joined (xs ++ x ∷ []) ≡ joined xs ++ x
 joined_on [] x = append-nil x
 joined_on (y ∷ ys) x = ap (λ z. y ++ z) (joined_on ys x) ∙ sym (append_assoc y (joined ys) x)
 
@@ -121,7 +121,7 @@ module _ (p : Place) (r : Reader) where
         same = same_then r v u at_v k.same;
       }
 
-  symbol_test : (f n : ℕ) → arity_of r.signature f ≡ Some n → is_symbol r.signature f n ≡ true
+  pub symbol_test : (f n : ℕ) → arity_of r.signature f ≡ Some n → is_symbol r.signature f n ≡ true
   symbol_test f n e = ap (is_arity n) e ∙ grind (arith, nat_tests)
 
   pub fits_application : (u v : Reader) (f n : ℕ) (args : List Shape) → arity_of r.signature f ≡ Some n → length args ≡ n → state_of u ≡ state_of r → u.bound ≡ r.bound → end_of u ≡ end_of r → AllFit p u args v → Fits p r (App f args) v

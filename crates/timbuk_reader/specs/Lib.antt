@@ -17,3 +17,4 @@ pub mod Meanings
 pub mod Sides
 pub mod AutomatonReads
 pub mod SectionReads
+pub mod ApproximationReads

@@ -1,6 +1,7 @@
 //! The reader of input texts: what a text spells, or its first fault.
 #![tactic(auto)]
 
+mod approximation;
 mod automaton;
 mod cursor;
 mod fault;
@@ -12,7 +13,6 @@ mod reader;
 mod rules;
 mod sections;
 mod state;
-mod stubs;
 mod symbols;
 mod token;
 

@@ -26,7 +26,7 @@ const MAX_EQUATIONS: usize = 1024;
 const MAX_NESTING: u32 = 100;
 
 /// The largest number of variables of a rule, of an equation or of an entry.
-const MAX_BOUND: usize = 16;
+pub(crate) const MAX_BOUND: usize = 16;
 
 impl<'s, 'a> Reader<'s, 'a> {
     /// A pattern below so many open applications. A name is refused that stands for nothing in the place or passes a limit,
@@ -188,7 +188,7 @@ impl<'s, 'a> Reader<'s, 'a> {
     }
 
     /// Whether the variable stands in the declaration that is being read.
-    fn is_bound(&self, variable: u32) -> bool
+    pub(crate) fn is_bound(&self, variable: u32) -> bool
         ensures { result ≡ has self.now.bound variable }
     {
         contains(self.bound.as_slice(), variable)
@@ -204,7 +204,7 @@ impl<'s, 'a> Reader<'s, 'a> {
     }
 
     /// Notes that the variable stands in the declaration that is being read. The only error is want of memory.
-    fn bind(&mut self, variable: u32) -> Result<(), AllocError>
+    pub(crate) fn bind(&mut self, variable: u32) -> Result<(), AllocError>
         requires { has self.old.bound variable ≡ false → length self.old.bound < 16 }
         ensures bound { OnOk result (self.new.bound ≡ with_variable self.old.bound variable) }
         ensures same { OnOk result (SameBut self.old self.new) }
@@ -270,7 +270,7 @@ impl<'s, 'a> Reader<'s, 'a> {
 }
 
 /// Whether the variable is one of these.
-fn contains(variables: &[u32], variable: u32) -> bool
+pub(crate) fn contains(variables: &[u32], variable: u32) -> bool
     ensures { result ≡ list_any (λ w. variable == w) variables.now }
 {
     variables.iter().any(|bound| variable == *bound)
