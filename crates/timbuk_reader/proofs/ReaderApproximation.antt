@@ -236,10 +236,12 @@ split_by bound old v true e h = inl e
 split_by bound old v false e h = inr (sym (ap (λ z. z || has old v) e) ∙ sym (has_append bound old v) ∙ h)
 
 after_bound : (bound old new : List ℕ) → Holds old new → Holds (bound ++ old) (bound ++ new)
-after_bound bound old new h = record { by = λ v e. elim (split_by bound old v (has bound v) refl e) [
-  | inl k ↦ has_left bound new v k
-  | inr k ↦ has_right bound new v (h.by v k)
-] }
+after_bound bound old new h = record {
+  by = λ v e. elim (split_by bound old v (has bound v) refl e) [
+    | inl k ↦ has_left bound new v k
+    | inr k ↦ has_right bound new v (h.by v k)
+  ];
+}
 
 there_by : (bound own : List ℕ) (v : ℕ) (b : Bool) → has bound v ≡ b → has (bound ++ cond b own (with_variable own v)) v ≡ true
 there_by bound own v true e = has_left bound own v e
@@ -262,7 +264,7 @@ started_more r u e f l same h fits k =
       over = all_on (shape_is_over u.signature) e.args (leaf_shape l) at_u.args.over part.over;
       below = all_on (shape_is_below (length u.initial.states)) e.args (leaf_shape l) at_u.args.below part.below;
       among = ap (are_among (u.bound ++ own)) (ap joined (map-append shape_occurrences e.args (leaf_shape l ∷ [])) ∙ joined_on (map shape_occurrences e.args) (shape_occurrences (leaf_shape l)))
-        ∙ among_append (u.bound ++ own) (joined (map shape_occurrences e.args)) (shape_occurrences (leaf_shape l))
+          ∙ among_append (u.bound ++ own) (joined (map shape_occurrences e.args)) (shape_occurrences (leaf_shape l))
           (among_more (u.bound ++ e.own) (u.bound ++ own) (joined (map shape_occurrences e.args)) (after_bound u.bound e.own own (own_holds u.bound e.own l)) at_u.args.among) part.among;
     } in
     record {
@@ -318,7 +320,7 @@ unfolding unseen seen_in
 strictly vs [] v e f = cc
 strictly vs (w ∷ ws) v e f =
     subst (λ b. cond b (unseen (vs ++ v ∷ []) ws) (suc (unseen (vs ++ v ∷ []) ws)) + 1 ≤ unseen vs (w ∷ ws)) (sym (seen_push vs v w))
-      (unseen_at vs ws v w (v == w) refl e f (fewer vs ws v) (λ g. strictly vs ws v e g))
+    (unseen_at vs ws v w (v == w) refl e f (fewer vs ws v) (λ g. strictly vs ws v e g))
 
 -- The variables that are not there yet are few.
 firsts_by : (vs ws xs : List ℕ) (v : ℕ) (b : Bool) → seen_in vs v ≡ b → seen_in ws v ≡ true → ((us : List ℕ) → length (fold terms.with_variable us xs) ≤ length us + unseen us ws) → length (fold terms.with_variable (cond b vs (vs ++ v ∷ [])) xs) ≤ length vs + unseen vs ws
@@ -364,7 +366,7 @@ module _ (r : Reader) (e : StartedEntry) (target : ℕ) (h : IsStarted r e) (ful
       let whole = among_more r.bound (r.bound ++ e.own) (shape_occurrences e.form.whole) wider h.form.whole.among in
       let at = among_more r.bound (r.bound ++ e.own) (shape_occurrences e.form.at) wider h.form.at.among in
       let all = among_append (r.bound ++ e.own) (shape_occurrences e.form.whole) (shape_occurrences e.form.at ++ shape_occurrences (node_of e)) whole
-        (among_append (r.bound ++ e.own) (shape_occurrences e.form.at) (shape_occurrences (node_of e)) at node_among) in
+      (among_append (r.bound ++ e.own) (shape_occurrences e.form.at) (shape_occurrences (node_of e)) at node_among) in
       let k = firsts_few (r.bound ++ e.own) (shape_occurrences e.form.whole ++ (shape_occurrences e.form.at ++ shape_occurrences (node_of e))) all in
       let count = length-append r.bound e.own in
       let small = h.few in

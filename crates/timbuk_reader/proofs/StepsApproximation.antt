@@ -125,7 +125,7 @@ module _ (a : Part) (ps : List Part) (end : End) (d : Declared) where
         ∙ many_take (one terminal.Comma then a) terminal.Comma (then_head terminal.Comma a) end d qs (x ∷ xs) e
         ∙ alike _ _ end d (x ∷ xs) (both_alike (one terminal.Comma) a (more ∷ qs))
         ∙ step_on (one terminal.Comma ∷ a ∷ more ∷ qs) terminal.Comma (a ∷ more ∷ qs) end d x xs (one_front terminal.Comma (a ∷ more ∷ qs)) e
-            (row_other terminal.Comma d x tt e (quiet_here x (rw (differ.apart terminal.Comma terminal.CloseParen x refl e, e, few) refl)) ∙ mark_row terminal.Comma x.text d tt)
+        (row_other terminal.Comma d x tt e (quiet_here x (rw (differ.apart terminal.Comma terminal.CloseParen x refl e, e, few) refl)) ∙ mark_row terminal.Comma x.text d tt)
         ∙ ap (λ z. outcome end (a ∷ more ∷ qs) z xs) (mark_adds terminal.Comma x.text d tt)
 
     -- a `)` behind too few arguments
@@ -168,5 +168,5 @@ module _ (a : Part) (ps : List Part) (end : End) (d : Declared) where
         alike _ _ end d (x ∷ xs) (both_alike (many (one terminal.Comma then a)) (one terminal.CloseParen) ps)
         ∙ many_skip (one terminal.Comma then a) terminal.Comma (then_head terminal.Comma a) end d qs (x ∷ xs) (differ.apart terminal.CloseParen terminal.Comma x refl e)
         ∙ step_on qs terminal.CloseParen ps end d x xs (one_front terminal.CloseParen ps) e
-            (row_other terminal.CloseParen d x tt e (quiet_here x (rw (differ.apart terminal.CloseParen terminal.Comma x refl e, e, full) refl)) ∙ close_row x)
+        (row_other terminal.CloseParen d x tt e (quiet_here x (rw (differ.apart terminal.CloseParen terminal.Comma x refl e, e, full) refl)) ∙ close_row x)
         ∙ ap (λ z. outcome end ps z xs) (close_adds x)

@@ -103,13 +103,15 @@ adds_used _ text d h = absurd h
 module _ (p : Place) (place_is : IsLeafOrTarget p) (text : Text) (r : Reader) (stands : Stands (terminal.Named p) r text) where
   -- a name that a row fits
   pub name_fails : (m : Meaning) (k : SpecKind) (e : SpecError) (o : Open) → o.last ≡ any → meaning (state_of r) p text ≡ m → rows_by m (declared o r) ≡ Some k → e ≡ error.Fault (refusal k r) → Stops (name p) o r e
-  name_fails m k e o l is some told = record { by = λ ne ps.
-      let d = declared o r in
-      let fits = row_other (terminal.Named p) d stands.token tt stands.matched (name_quiet p stands.token stands.matched d l)
-          ∙ ap (λ z. use_row (terminal.Named p) z d) stands.text_is ∙ short_rows p text m o r place_is stands.short is ∙ some in
-      ap (λ z. as_error (settled z)) (ap (outcome (end_of r) (name p ∷ ps) d) stands.tokens
+  name_fails m k e o l is some told = record {
+    by = λ ne ps.
+        let d = declared o r in
+        let fits = row_other (terminal.Named p) d stands.token tt stands.matched (name_quiet p stands.token stands.matched d l)
+        ∙ ap (λ z. use_row (terminal.Named p) z d) stands.text_is ∙ short_rows p text m o r place_is stands.short is ∙ some in
+        ap (λ z. as_error (settled z)) (ap (outcome (end_of r) (name p ∷ ps) d) stands.tokens
         ∙ step_fault (name p ∷ ps) (terminal.Named p) ps (end_of r) d stands.token stands.rest k (one_front (terminal.Named p) ps) stands.matched fits
-        ∙ ap (λ xs. Err (refusal_at k (end_of r) xs)) (sym stands.tokens)) ∙ ap Err (sym told) }
+        ∙ ap (λ xs. Err (refusal_at k (end_of r) xs)) (sym stands.tokens)) ∙ ap Err (sym told);
+  }
 
   -- a name that no row fits
   pub name_passes : (u : Reader) (m : Meaning) (o : Open) (ps : List Part) → o.last ≡ any → meaning (state_of r) p text ≡ m → rows_by m (declared o r) ≡ None → Advanced r u
@@ -118,7 +120,7 @@ module _ (p : Place) (place_is : IsLeafOrTarget p) (text : Text) (r : Reader) (s
       let d = declared o r in
       let rest : stands.rest ≡ u.tokens.now = let e = sym stands.tokens ∙ k.tokens in cc in
       let fits = row_other (terminal.Named p) d stands.token tt stands.matched (name_quiet p stands.token stands.matched d l)
-          ∙ ap (λ z. use_row (terminal.Named p) z d) stands.text_is ∙ short_rows p text m o r place_is stands.short is ∙ none in
+      ∙ ap (λ z. use_row (terminal.Named p) z d) stands.text_is ∙ short_rows p text m o r place_is stands.short is ∙ none in
       ap (outcome (end_of r) (name p ∷ ps) d) stands.tokens
       ∙ step_on (name p ∷ ps) (terminal.Named p) ps (end_of r) d stands.token stands.rest (one_front (terminal.Named p) ps) stands.matched fits
       ∙ ap (λ z. outcome (end_of r) ps (adds (terminal.Named p) z d) stands.rest) stands.text_is
@@ -130,14 +132,18 @@ module _ (p : Place) (place_is : IsLeafOrTarget p) (text : Text) (r : Reader) (s
 module _ (p : Place) (r : Reader) (e : SpecError) (o : Open) (ready : IsReady o r) where
   -- no name stands there, or a long one
   pub no_name_stops : HasNoWord (terminal.Named p) r e → Stops (name p) o r e
-  no_name_stops (missed m) = record { by = λ ne ps.
-      ap (λ z. as_error (settled z)) (missed_here (name p ∷ ps) (terminal.Named p) ps (end_of r) (declared o r) r.tokens.now (one_front (terminal.Named p) ps) m.unseen ready.last ready.count) ∙ ap Err (sym m.told) }
-  no_name_stops (long l told) = record { by = λ ne ps.
-      let d = declared o r in
-      let fits = row_other (terminal.Named p) d l.token tt l.matched (name_quiet p l.token l.matched d ready.last) ∙ long_row (terminal.Named p) l.token.text d tt l.long in
-      ap (λ z. as_error (settled z)) (ap (outcome (end_of r) (name p ∷ ps) d) l.tokens
+  no_name_stops (missed m) = record {
+    by = λ ne ps.
+        ap (λ z. as_error (settled z)) (missed_here (name p ∷ ps) (terminal.Named p) ps (end_of r) (declared o r) r.tokens.now (one_front (terminal.Named p) ps) m.unseen ready.last ready.count) ∙ ap Err (sym m.told);
+  }
+  no_name_stops (long l told) = record {
+    by = λ ne ps.
+        let d = declared o r in
+        let fits = row_other (terminal.Named p) d l.token tt l.matched (name_quiet p l.token l.matched d ready.last) ∙ long_row (terminal.Named p) l.token.text d tt l.long in
+        ap (λ z. as_error (settled z)) (ap (outcome (end_of r) (name p ∷ ps) d) l.tokens
         ∙ step_fault (name p ∷ ps) (terminal.Named p) ps (end_of r) d l.token l.rest (kind.Limit limit.NameBytes) (one_front (terminal.Named p) ps) l.matched fits
-        ∙ ap (λ xs. Err (refusal_at (kind.Limit limit.NameBytes) (end_of r) xs)) (sym l.tokens)) ∙ ap Err (sym told) }
+        ∙ ap (λ xs. Err (refusal_at (kind.Limit limit.NameBytes) (end_of r) xs)) (sym l.tokens)) ∙ ap Err (sym told);
+  }
 
 -- ---- variables and states
 
@@ -187,8 +193,10 @@ module _ (p : Place) (place_is : IsLeafPlace p) (own : List ℕ) (text : Text) (
 
   -- a 17th variable
   pub crowded_leaf : (v : ℕ) (e : SpecError) → meaning (state_of r) p text ≡ a_variable v → has_room r.bound own v ≡ false → e ≡ error.Fault (refusal (kind.Limit limit.Variables) r) → StopsLeaf p own r e
-  crowded_leaf v e is full told = record { by = λ o ready there.
-      name_fails p (leaf_place p place_is) text r stands (a_variable v) (kind.Limit limit.Variables) e o ready.last is (crowded_row v (declared o r) (room_in own r o v there ∙ full)) told }
+  crowded_leaf v e is full told = record {
+    by = λ o ready there.
+        name_fails p (leaf_place p place_is) text r stands (a_variable v) (kind.Limit limit.Variables) e o ready.last is (crowded_row v (declared o r) (room_in own r o v there ∙ full)) told;
+  }
 
   -- a variable that may stand there
   pub variable_leaf : (v : ℕ) → meaning (state_of r) p text ≡ a_variable v → has_room r.bound own v ≡ true → HasLeaf p own r (leaves.Variable v)
@@ -221,8 +229,12 @@ module _ (p : Place) (place_is : IsLeafPlace p) (own : List ℕ) (r u : Reader) 
 
   -- a `(` stands behind it
   pub leaf_stops : (e : SpecError) → LeadsToParen kind.Expected r e u → StopsLeaf p own r e
-  leaf_stops e k = record { by = λ o ready there. record { by = λ ne ps.
-      ap (λ z. as_error (settled z)) (passes o ps ready.last there k.advanced ∙ applied_by p l ps (end_of u) (declared o u) u.tokens.now k.seen) ∙ ap Err (sym k.told) } }
+  leaf_stops e k = record {
+    by = λ o ready there. record {
+      by = λ ne ps.
+          ap (λ z. as_error (settled z)) (passes o ps ready.last there k.advanced ∙ applied_by p l ps (end_of u) (declared o u) u.tokens.now k.seen) ∙ ap Err (sym k.told);
+    };
+  }
 
 -- it may stand there still
 pub leaf_kept : (own : List ℕ) (r u : Reader) (l : Leaf) → state_of u ≡ state_of r → u.bound ≡ r.bound → IsLeaf own r l → IsLeaf own u l
@@ -250,8 +262,12 @@ module _ (text : Text) (r : Reader) (stands : Stands (terminal.Named place.Entry
 
     -- a `(` stands behind it
     pub target_stops : (e : SpecError) → LeadsToParen kind.Expected r e u → StopsName place.EntryTarget r e
-    target_stops e k = record { by = λ o ready. record { by = λ ne ps.
-        ap (λ z. as_error (settled z)) (target_passes o ps ready.last k.advanced ∙ applied_by place.EntryTarget (leaves.State q) ps (end_of u) (declared o u) u.tokens.now k.seen) ∙ ap Err (sym k.told) } }
+    target_stops e k = record {
+      by = λ o ready. record {
+        by = λ ne ps.
+            ap (λ z. as_error (settled z)) (target_passes o ps ready.last k.advanced ∙ applied_by place.EntryTarget (leaves.State q) ps (end_of u) (declared o u) u.tokens.now k.seen) ∙ ap Err (sym k.told);
+      };
+    }
 
     pub target_below : state_of u ≡ state_of r → q < length u.initial.states
     target_below e = subst (λ (d : Declared). q < length d.initial.states) (sym e) (position-Some (bytes_eq text) r.initial.states q [] is).0
@@ -294,6 +310,7 @@ module _ (form : Form) (r : Reader) (text : Text) (short : length text ≤ 255) 
   head_full many = full_by (number_of r.signature text) refl where
     all : nat_le 1024 (length r.entries) ≡ true
     all = grind (arith, nat_tests)
+
     full_by : (o : Option ℕ) → number_of r.signature text ≡ o → use_row (terminal.Named place.EntryHead) text D ≡ Some (kind.Limit limit.Entries)
     full_by None e = heads_are text D few_bytes ∙ ap (λ m. heads_by m D) (means_none D text e) ∙ rw all refl
     full_by (Some f) e = heads_are text D few_bytes ∙ ap (λ m. heads_by m D) (means_head D text f e) ∙ rw (no_nesting (nat_lt 0 (unwrap_or (arity_of r.signature f) 0)), all) refl

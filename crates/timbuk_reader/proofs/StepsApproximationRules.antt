@@ -65,9 +65,11 @@ at_declared whole m u (leaves.State q) e b = λ i. inside (within [] (whole ∷ 
 -- the form of a state
 pub at_leads : (r m u : Reader) (form : Form) (l : Leaf) → form.at ≡ leaf_shape l → ReadsLeaf place.EntryAt [] r l m → SameBut m u → u.bound ≡ with_leaf m.bound l → u.tokens.now ≡ m.tokens.now
     → Leads (name place.EntryAt) (within [] (form.whole ∷ [])) r (formed form) u
-at_leads r m u form l at h same b t = record { by = λ ps.
-    h.by (within [] (form.whole ∷ [])) (ready_by (within [] (form.whole ∷ [])) r refl refl) (record { binds = refl; own_is = refl }) ps
-    ∙ (λ i. settled (outcome (sym same.end i) ps ((at_declared form.whole m u l same.state b ∙ ap (λ s. declared (within [] (form.whole ∷ s ∷ [])) u) (sym at)) i) (sym t i))) }
+at_leads r m u form l at h same b t = record {
+  by = λ ps.
+      h.by (within [] (form.whole ∷ [])) (ready_by (within [] (form.whole ∷ [])) r refl refl) (record { binds = refl; own_is = refl }) ps
+      ∙ (λ i. settled (outcome (sym same.end i) ps ((at_declared form.whole m u l same.state b ∙ ap (λ s. declared (within [] (form.whole ∷ s ∷ [])) u) (sym at)) i) (sym t i)));
+}
 
 -- ---- one argument
 
@@ -84,8 +86,10 @@ argument = name place.EntryArgument
 
 -- a `)` in place of an argument
 pub argument_closed : (e : StartedEntry) (r : Reader) (x : SpecError) → length e.args < e.arity → sees terminal.CloseParen r.tokens.now ≡ true → x ≡ error.Fault (refusal kind.WrongArity r) → Stops argument (arguing e) r x
-argument_closed e r x less seen told = record { by = λ ne ps.
-    ap (λ z. as_error (settled z)) (argument_lacks argument ps (end_of r) (declared (arguing e) r) (lacking e) [] refl refl (argument ∷ ps) r.tokens.now less seen) ∙ ap Err (sym told) }
+argument_closed e r x less seen told = record {
+  by = λ ne ps.
+      ap (λ z. as_error (settled z)) (argument_lacks argument ps (end_of r) (declared (arguing e) r) (lacking e) [] refl refl (argument ∷ ps) r.tokens.now less seen) ∙ ap Err (sym told);
+}
 
 module _ (e : StartedEntry) (r : Reader) (less : length e.args < e.arity) (unclosed : sees terminal.CloseParen r.tokens.now ≡ false) where
   ready : IsReady (arguing e) r
@@ -100,7 +104,7 @@ module _ (e : StartedEntry) (r : Reader) (less : length e.args < e.arity) (unclo
 
   own_by : (b : Bool) (v : ℕ) (d : Declared) (a : Application) → d.applications ≡ a ∷ []
       → record (placed place.EntryArgument (shape.Var v) (cond b d (record d { own = with_variable d.own v }))) { last = any }
-        ≡ record d { applications = record a { args = a.args ++ shape.Var v ∷ [] } ∷ []; own = cond b d.own (with_variable d.own v); last = any }
+      ≡ record d { applications = record a { args = a.args ++ shape.Var v ∷ [] } ∷ []; own = cond b d.own (with_variable d.own v); last = any }
   own_by true v d a k = ap (λ l. record (placed_in l place.EntryArgument (shape.Var v) d) { last = any }) k
   own_by false v d a k = ap (λ l. record (placed_in l place.EntryArgument (shape.Var v) (record d { own = with_variable d.own v })) { last = any }) k
 
@@ -112,9 +116,11 @@ module _ (e : StartedEntry) (r : Reader) (less : length e.args < e.arity) (unclo
   same_entry u l f h = λ i. record { form = sym h.head.form i; sym = sym h.head.sym i; arity = sym h.head.arity i; args = sym h.args i; own = sym h.own i }
 
   pub argument_leads : (u : Reader) (l : Leaf) (f : StartedEntry) → ReadsLeaf place.EntryArgument e.own r l u → AddsArgument u.bound l e f → Leads argument (arguing e) r (arguing f) u
-  argument_leads u l f h k = record { by = λ ps.
-      h.by (arguing e) ready (record { binds = refl; own_is = refl }) ps
-      ∙ ap (λ d. settled (outcome (end_of u) ps d u.tokens.now)) (argument_declared u l ∙ ap (λ z. declared (arguing z) u) (same_entry u l f k)) }
+  argument_leads u l f h k = record {
+    by = λ ps.
+        h.by (arguing e) ready (record { binds = refl; own_is = refl }) ps
+        ∙ ap (λ d. settled (outcome (end_of u) ps d u.tokens.now)) (argument_declared u l ∙ ap (λ z. declared (arguing z) u) (same_entry u l f k));
+  }
 
 -- ---- all arguments
 
@@ -143,24 +149,30 @@ module _ (e : StartedEntry) (bare : IsBare e) where
   -- a symbol of arity 0
   module _ (r : Reader) (none : e.arity ≡ 0) where
     pub none_stops : (x : SpecError) → HasArguments r x → Stops (arguments argument) (headed e) r x
-    none_stops x h = record { by = λ ne ps.
-        ap (λ z. as_error (settled z)) (constant_applied (arguments argument ∷ ps) (end_of r) (declared (headed e) r) r.tokens.now (none_by e.arity e r bare none).0 h.seen) ∙ ap Err (sym h.told) }
+    none_stops x h = record {
+      by = λ ne ps.
+          ap (λ z. as_error (settled z)) (constant_applied (arguments argument ∷ ps) (end_of r) (declared (headed e) r) r.tokens.now (none_by e.arity e r bare none).0 h.seen) ∙ ap Err (sym h.told);
+    }
 
     pub none_leads : sees terminal.OpenParen r.tokens.now ≡ false → Leads (arguments argument) (headed e) r (argued e) r
-    none_leads unseen = record { by = λ ps.
-        let k = none_by e.arity e r bare none in
-        let d = declared (headed e) r in
-        let after_last : after constant d ≡ d = ap (λ l. record d { last = l }) (sym k.0) in
-        ap settled (maybe_skip (one terminal.OpenParen then (argument then more_of argument)) terminal.OpenParen (then_head terminal.OpenParen (argument then more_of argument)) (end_of r) d ps r.tokens.now unseen)
-        ∙ sym (ap (λ z. settled (outcome (end_of r) ps z r.tokens.now)) after_last)
-        ∙ read_after constant constant_whole (end_of r) ps d r.tokens.now unseen
-        ∙ ap (λ z. settled (outcome (end_of r) ps z r.tokens.now)) k.1 }
+    none_leads unseen = record {
+      by = λ ps.
+          let k = none_by e.arity e r bare none in
+          let d = declared (headed e) r in
+          let after_last : after constant d ≡ d = ap (λ l. record d { last = l }) (sym k.0) in
+          ap settled (maybe_skip (one terminal.OpenParen then (argument then more_of argument)) terminal.OpenParen (then_head terminal.OpenParen (argument then more_of argument)) (end_of r) d ps r.tokens.now unseen)
+          ∙ sym (ap (λ z. settled (outcome (end_of r) ps z r.tokens.now)) after_last)
+          ∙ read_after constant constant_whole (end_of r) ps d r.tokens.now unseen
+          ∙ ap (λ z. settled (outcome (end_of r) ps z r.tokens.now)) k.1;
+    }
 
   -- a symbol of another arity
   module _ (r : Reader) (some : 0 < e.arity) where
     pub lacks_first : (x : SpecError) → LacksArguments r x → Stops (arguments argument) (headed e) r x
-    lacks_first x h = record { by = λ ne ps.
-        ap (λ z. as_error (settled z)) (function_bare (arguments argument ∷ ps) (end_of r) (declared (headed e) r) r.tokens.now (bare_by e.arity e r refl bare some).0 h.unseen) ∙ ap Err (sym h.told) }
+    lacks_first x h = record {
+      by = λ ne ps.
+          ap (λ z. as_error (settled z)) (function_bare (arguments argument ∷ ps) (end_of r) (declared (headed e) r) r.tokens.now (bare_by e.arity e r refl bare some).0 h.unseen) ∙ ap Err (sym h.told);
+    }
 
     opened : (m : Reader) (ps : List Part) → Took terminal.OpenParen r m → from (headed e) (arguments argument ∷ ps) r ≡ from (arguing e) (argument ∷ more_of argument ∷ ps) m
     opened m ps k =
@@ -179,10 +191,14 @@ module _ (e : StartedEntry) (bare : IsBare e) where
 module _ (r m : Reader) (e f : StartedEntry) (h : Argues r e f m) where
   module _ (less : length f.args < f.arity) where
     pub lacks_next : (x : SpecError) → LacksArgument m x → Stops (arguments argument) (headed e) r x
-    lacks_next x (too_few seen told) = record { by = λ ne ps.
-        ap as_error (h.by ps) ∙ ap (λ z. as_error (settled z)) (argument_lacks argument ps (end_of m) (declared (arguing f) m) (lacking f) [] refl refl (more_of argument ∷ ps) m.tokens.now less seen) ∙ ap Err (sym told) }
-    lacks_next x (no_comma unseen k) = record { by = λ ne ps.
-        ap as_error (h.by ps) ∙ ap (λ z. as_error (settled z)) (argument_unmarked argument ps (end_of m) (declared (arguing f) m) (lacking f) [] refl refl m.tokens.now unseen k.unseen) ∙ ap Err (sym k.told) }
+    lacks_next x (too_few seen told) = record {
+      by = λ ne ps.
+          ap as_error (h.by ps) ∙ ap (λ z. as_error (settled z)) (argument_lacks argument ps (end_of m) (declared (arguing f) m) (lacking f) [] refl refl (more_of argument ∷ ps) m.tokens.now less seen) ∙ ap Err (sym told);
+    }
+    lacks_next x (no_comma unseen k) = record {
+      by = λ ne ps.
+          ap as_error (h.by ps) ∙ ap (λ z. as_error (settled z)) (argument_unmarked argument ps (end_of m) (declared (arguing f) m) (lacking f) [] refl refl m.tokens.now unseen k.unseen) ∙ ap Err (sym k.told);
+    }
 
     between : (v : Reader) (ps : List Part) → Took terminal.Comma m v → from (headed e) (arguments argument ∷ ps) r ≡ from (arguing f) (argument ∷ many (one terminal.Comma then argument) ∷ one terminal.CloseParen ∷ ps) v
     between v ps k =
@@ -193,25 +209,33 @@ module _ (r m : Reader) (e f : StartedEntry) (h : Argues r e f m) where
     next_stops v x k s = record { by = λ ne ps. ap as_error (between v ps k) ∙ s.by ne (many (one terminal.Comma then argument) ∷ one terminal.CloseParen ∷ ps) }
 
     pub next_argues : (v u : Reader) (g : StartedEntry) → Took terminal.Comma m v → Leads argument (arguing f) v (arguing g) u → Argues r e g u
-    next_argues v u g k l = record { by = λ ps.
-        let qs = many (one terminal.Comma then argument) ∷ one terminal.CloseParen ∷ ps in
-        between v ps k ∙ l.by qs
-        ∙ sym (ap settled (alike (more_of argument ∷ ps) qs (end_of u) (declared (arguing g) u) u.tokens.now (both_alike (many (one terminal.Comma then argument)) (one terminal.CloseParen) ps))) }
+    next_argues v u g k l = record {
+      by = λ ps.
+          let qs = many (one terminal.Comma then argument) ∷ one terminal.CloseParen ∷ ps in
+          between v ps k ∙ l.by qs
+          ∙ sym (ap settled (alike (more_of argument ∷ ps) qs (end_of u) (declared (arguing g) u) u.tokens.now (both_alike (many (one terminal.Comma then argument)) (one terminal.CloseParen) ps)));
+    }
 
   module _ (full : length f.args ≡ f.arity) where
     all : f.arity ≤ length f.args
     all = omega arith
 
     pub lacks_last : (x : SpecError) → LacksEnd m x → Stops (arguments argument) (headed e) r x
-    lacks_last x (too_many seen told) = record { by = λ ne ps.
-        ap as_error (h.by ps) ∙ ap (λ z. as_error (settled z)) (argument_exceeds argument ps (end_of m) (declared (arguing f) m) (lacking f) [] refl refl (more_of argument ∷ ps) m.tokens.now all seen) ∙ ap Err (sym told) }
-    lacks_last x (no_end unseen k) = record { by = λ ne ps.
-        ap as_error (h.by ps) ∙ ap (λ z. as_error (settled z)) (argument_unmarked argument ps (end_of m) (declared (arguing f) m) (lacking f) [] refl refl m.tokens.now k.unseen unseen) ∙ ap Err (sym k.told) }
+    lacks_last x (too_many seen told) = record {
+      by = λ ne ps.
+          ap as_error (h.by ps) ∙ ap (λ z. as_error (settled z)) (argument_exceeds argument ps (end_of m) (declared (arguing f) m) (lacking f) [] refl refl (more_of argument ∷ ps) m.tokens.now all seen) ∙ ap Err (sym told);
+    }
+    lacks_last x (no_end unseen k) = record {
+      by = λ ne ps.
+          ap as_error (h.by ps) ∙ ap (λ z. as_error (settled z)) (argument_unmarked argument ps (end_of m) (declared (arguing f) m) (lacking f) [] refl refl m.tokens.now k.unseen unseen) ∙ ap Err (sym k.told);
+    }
 
     pub all_lead : (u : Reader) → Took terminal.CloseParen m u → Leads (arguments argument) (headed e) r (argued f) u
-    all_lead u k = record { by = λ ps.
-        h.by ps ∙ ap settled (took_on terminal.CloseParen m u (arguing f) (more_of argument ∷ ps) k
-        ∙ arguments_close argument ps (end_of u) (declared (arguing f) u) (lacking f) [] refl refl k.token u.tokens.now all k.matched) }
+    all_lead u k = record {
+      by = λ ps.
+          h.by ps ∙ ap settled (took_on terminal.CloseParen m u (arguing f) (more_of argument ∷ ps) k
+          ∙ arguments_close argument ps (end_of u) (declared (arguing f) u) (lacking f) [] refl refl k.token u.tokens.now all k.matched);
+    }
 
 -- ---- their results, as they are handed on
 
@@ -253,9 +277,11 @@ target_declared e q u v added only =
 -- the target of an entry, which was added
 pub target_leads : (e : StartedEntry) (form : Form) (q : ℕ) (r u v : Reader) → e.form ≡ form → ReadsName place.EntryTarget r (a_state q) u → v.entries ≡ u.entries ++ entry_of e q ∷ [] → OnlyEntries u v → SameTokens u v
     → Leads (name place.EntryTarget) (argued e) r (formed form) v
-target_leads e form q r u v same h added only tokens = record { by = λ ps.
-    h.by (argued e) (ready_by (argued e) r refl refl) ps
-    ∙ (λ i. settled (outcome (sym tokens.end i) ps ((target_declared e q u v added only ∙ ap (λ f. declared (formed f) v) same) i) (sym tokens.tokens i))) }
+target_leads e form q r u v same h added only tokens = record {
+  by = λ ps.
+      h.by (argued e) (ready_by (argued e) r refl refl) ps
+      ∙ (λ i. settled (outcome (sym tokens.end i) ps ((target_declared e q u v added only ∙ ap (λ f. declared (formed f) v) same) i) (sym tokens.tokens i)));
+}
 
 pub target_fails : (e : StartedEntry) (r : Reader) (x : SpecError) → StopsName place.EntryTarget r x → Stops (name place.EntryTarget) (argued e) r x
 target_fails e r x h = h.by (argued e) (ready_by (argued e) r refl refl)
@@ -307,8 +333,10 @@ pub record Enters (form : Form) (r m : Reader) : Type 0 where
   pub by : (ps : List Part) → from (formed form) (some_entries ∷ ps) r ≡ from (formed form) (many entry ∷ ps) m
 
 pub enters_first : (form : Form) (r m : Reader) → Leads entry (formed form) r (formed form) m → Enters form r m
-enters_first form r m h = record { by = λ ps.
-    ap settled (alike (some_entries ∷ ps) (entry ∷ many entry ∷ ps) (end_of r) (declared (formed form) r) r.tokens.now (both_alike entry (many entry) ps)) ∙ h.by (many entry ∷ ps) }
+enters_first form r m h = record {
+  by = λ ps.
+      ap settled (alike (some_entries ∷ ps) (entry ∷ many entry ∷ ps) (end_of r) (declared (formed form) r) r.tokens.now (both_alike entry (many entry) ps)) ∙ h.by (many entry ∷ ps);
+}
 
 module _ (form : Form) (r m : Reader) (h : Enters form r m) where
   module _ (seen : sees (terminal.Named place.EntryHead) m.tokens.now ≡ true) where

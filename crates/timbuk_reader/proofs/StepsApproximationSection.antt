@@ -41,12 +41,14 @@ unfolding adds
 close_adds form u text = refl
 
 close_leads : (form : Form) (m u : Reader) → Took terminal.CloseEntries m u → Leads (one terminal.CloseEntries) (formed form) m closed u
-close_leads form m u k = record { by = λ ps.
-    let d = declared (formed form) u in
-    ap settled (took_on terminal.CloseEntries m u (formed form) (one terminal.CloseEntries ∷ ps) k
-    ∙ step_on (one terminal.CloseEntries ∷ ps) terminal.CloseEntries ps (end_of u) d k.token u.tokens.now (one_front terminal.CloseEntries ps) k.matched
-        (row_other terminal.CloseEntries d k.token tt k.matched (calm_quiet d k.token refl refl) ∙ close_row k.token.text d)
-    ∙ ap (λ z. outcome (end_of u) ps z u.tokens.now) (close_adds form u k.token.text)) }
+close_leads form m u k = record {
+  by = λ ps.
+      let d = declared (formed form) u in
+      ap settled (took_on terminal.CloseEntries m u (formed form) (one terminal.CloseEntries ∷ ps) k
+      ∙ step_on (one terminal.CloseEntries ∷ ps) terminal.CloseEntries ps (end_of u) d k.token u.tokens.now (one_front terminal.CloseEntries ps) k.matched
+      (row_other terminal.CloseEntries d k.token tt k.matched (calm_quiet d k.token refl refl) ∙ close_row k.token.text d)
+      ∙ ap (λ z. outcome (end_of u) ps z u.tokens.now) (close_adds form u k.token.text));
+}
 
 close_reads : {X : Type 0} (form : Form) (m u : Reader) (result : Result X SpecError) → Takes terminal.CloseEntries m result u → Reads (one terminal.CloseEntries) (formed form) m result closed u
 close_reads form m u (Ok x) k = close_leads form m u k
@@ -183,11 +185,13 @@ late_row : (d : Declared) (x : Lexeme) → d.applications ≡ [] → d.last ≡ 
 late_row d x a l e later = row_expected terminal.Approximation d x e (calm_quiet d x a l) (let none : (d.automata == 0) ≡ false = grind (arith, nat_tests) in ap (λ b. matches terminal.Approximation x && b) none ∙ and_false (matches terminal.Approximation x))
 
 word_fault : (r : Reader) (x : Lexeme) (rest : List Lexeme) (e : SpecError) (k : SpecKind) → r.tokens.now ≡ x ∷ rest → matches terminal.Approximation x ≡ true → row (Some terminal.Approximation) (declared closed r) x ≡ Some k → e ≡ error.Fault (refusal k r) → Stops (one terminal.Approximation) closed r e
-word_fault r x rest e k tokens m fits told = record { by = λ ne ps.
-    let d = declared closed r in
-    ap (λ z. as_error (settled z)) (ap (outcome (end_of r) (one terminal.Approximation ∷ ps) d) tokens
+word_fault r x rest e k tokens m fits told = record {
+  by = λ ne ps.
+      let d = declared closed r in
+      ap (λ z. as_error (settled z)) (ap (outcome (end_of r) (one terminal.Approximation ∷ ps) d) tokens
       ∙ step_fault (one terminal.Approximation ∷ ps) terminal.Approximation ps (end_of r) d x rest k (one_front terminal.Approximation ps) m fits
-      ∙ ap (λ xs. Err (refusal_at k (end_of r) xs)) (sym tokens)) ∙ ap Err (sym told) }
+      ∙ ap (λ xs. Err (refusal_at k (end_of r) xs)) (sym tokens)) ∙ ap Err (sym told);
+}
 
 early_by : (r : Reader) (e : SpecError) (xs : List Lexeme) (b : Bool) → r.tokens.now ≡ xs → sees terminal.Approximation xs ≡ b → r.automata ≡ 0 → e ≡ error.Fault (refusal kind.Expected r) → Stops (one terminal.Approximation) closed r e
 early_by r e xs false t s z told = mark_stops terminal.Approximation closed r e closed_calm (record { unseen = ap (sees terminal.Approximation) t ∙ s; told = told })

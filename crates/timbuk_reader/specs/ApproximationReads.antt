@@ -90,7 +90,7 @@ leaf_shape (leaf.State q) = shape.State q
 -- a name was read that has this meaning
 pub record ReadsName (p : Place) (old : Reader) (m : Meaning) (new : Reader) : Type 0 where
   pub by : (o : Open) → IsReady o old → (ps : List Part)
-    → from o (name p ∷ ps) old ≡ settled (outcome (end_of new) ps (record (named p m (declared o new)) { last = any }) new.tokens.now)
+      → from o (name p ∷ ps) old ≡ settled (outcome (end_of new) ps (record (named p m (declared o new)) { last = any }) new.tokens.now)
 
 -- no name can be read there
 pub record StopsName (p : Place) (old : Reader) (e : SpecError) : Type 0 where
@@ -104,7 +104,7 @@ pub record IsBinding (own : List ℕ) (o : Open) : Type 0 where
 -- a variable or a state was read there
 pub record ReadsLeaf (p : Place) (own : List ℕ) (old : Reader) (l : Leaf) (new : Reader) : Type 0 where
   pub by : (o : Open) → IsReady o old → IsBinding own o → (ps : List Part)
-    → from o (name p ∷ ps) old ≡ settled (outcome (end_of new) ps (record (named p (leaf_meaning l) (declared o new)) { last = any }) new.tokens.now)
+      → from o (name p ∷ ps) old ≡ settled (outcome (end_of new) ps (record (named p (leaf_meaning l) (declared o new)) { last = any }) new.tokens.now)
 
 -- none can be read there
 pub record StopsLeaf (p : Place) (own : List ℕ) (old : Reader) (e : SpecError) : Type 0 where

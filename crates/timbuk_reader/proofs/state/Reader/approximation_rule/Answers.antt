@@ -42,7 +42,7 @@ returns-in_err-form-clause-reads c =
     let e = c.in_err-form.field-0.0 in
     let open_one : Leads (one terminal.OpenBracket) closed r closed m = unbound_leads (one terminal.OpenBracket) r c.mark.new.self m c.in_ok-mark.ensures.reads c.unbind.ensures.same c.unbind.ensures.tokens in
     let stops : Stops approximation_rule closed r e =
-      rule_stops_in_form r m open_one c.unbind.ensures.bound c.pattern.new.self c.in_ok-whole.whole c.in_ok-whole.ensures.reads c.mark-2.new.self c.in_ok-mark-2.ensures.takes e c.in_err-form.ensures.err in
+    rule_stops_in_form r m open_one c.unbind.ensures.bound c.pattern.new.self c.in_ok-whole.whole c.in_ok-whole.ensures.reads c.mark-2.new.self c.in_ok-mark-2.ensures.takes e c.in_err-form.ensures.err in
     grind (arith, common_steps)
 
 pub returns-in_err-mark-3-clause-reads : goal.returns-in_err-mark-3-clause-reads
@@ -52,8 +52,8 @@ returns-in_err-mark-3-clause-reads c =
     let e = c.in_err-mark-3.field-0.0 in
     let open_one : Leads (one terminal.OpenBracket) closed r closed m = unbound_leads (one terminal.OpenBracket) r c.mark.new.self m c.in_ok-mark.ensures.reads c.unbind.ensures.same c.unbind.ensures.tokens in
     let stops : Stops approximation_rule closed r e =
-      rule_stops_at_bracket r m open_one c.unbind.ensures.bound c.pattern.new.self c.in_ok-whole.whole c.in_ok-whole.ensures.reads c.mark-2.new.self c.in_ok-mark-2.ensures.takes
-        c.form.new.self c.in_ok-form.form c.in_ok-form.ensures.ok e c.in_err-mark-3.ensures.takes in
+    rule_stops_at_bracket r m open_one c.unbind.ensures.bound c.pattern.new.self c.in_ok-whole.whole c.in_ok-whole.ensures.reads c.mark-2.new.self c.in_ok-mark-2.ensures.takes
+    c.form.new.self c.in_ok-form.form c.in_ok-form.ensures.ok e c.in_err-mark-3.ensures.takes in
     grind (arith, common_steps)
 
 pub returns-clause-reads : goal.returns-clause-reads
@@ -62,4 +62,4 @@ returns-clause-reads c =
     let m = c.unbind.new.self in
     let open_one : Leads (one terminal.OpenBracket) closed r closed m = unbound_leads (one terminal.OpenBracket) r c.mark.new.self m c.in_ok-mark.ensures.reads c.unbind.ensures.same c.unbind.ensures.tokens in
     rule_reads r m open_one c.unbind.ensures.bound c.pattern.new.self c.in_ok-whole.whole c.in_ok-whole.ensures.reads c.mark-2.new.self c.in_ok-mark-2.ensures.takes
-      c.form.new.self c.in_ok-form.form c.in_ok-form.ensures.ok c.mark-3.new.self c.form_entries.new.self c.form_entries.result c.in_ok-mark-3.ensures.takes c.form_entries.ensures.reads
+    c.form.new.self c.in_ok-form.form c.in_ok-form.ensures.ok c.mark-3.new.self c.form_entries.new.self c.form_entries.result c.in_ok-mark-3.ensures.takes c.form_entries.ensures.reads

@@ -11,5 +11,5 @@ pub returns-in_err-approximation_rule-clause-reads : goal.returns-in_err-approxi
 returns-in_err-approximation_rule-clause-reads c =
     let e = c.in_err-approximation_rule.field-0.0 in
     let stops : Stops (many approximation_rule) closed c.args.self.now e =
-      turns_err approximation_rule terminal.OpenBracket c.args.self.now c.loop-self.self e c.loop-self.invariant.turns (then_head terminal.OpenBracket _) (sym c.sees.ensures.value ∙ c.loop-self-test.true) c.in_err-approximation_rule.ensures.reads in
+    turns_err approximation_rule terminal.OpenBracket c.args.self.now c.loop-self.self e c.loop-self.invariant.turns (then_head terminal.OpenBracket _) (sym c.sees.ensures.value ∙ c.loop-self-test.true) c.in_err-approximation_rule.ensures.reads in
     grind (arith, common_steps)

@@ -5,9 +5,9 @@ use Rattle.timbuk_reader.proofs.state.Reader.approximation_word.Goals.{then-self
 
 pub returns-then-self-eq0-clause-reads : goal.returns-then-self-eq0-clause-reads
 returns-then-self-eq0-clause-reads c = elim c.then-self-eq0.branch [
-    | then-self-eq0-via-then-self-eq0 w ↦ early_stops c.args.self.now c.refusal.result w.if-self-eq0.true c.refusal.ensures
-    | then-self-eq0-via-else-self-eq0+then-not-sees w ↦ other_stops c.args.self.now c.refusal.result (sym w.sees.ensures.value ∙ w.if-not-sees.true) c.refusal.ensures
-  ]
+  | then-self-eq0-via-then-self-eq0 w ↦ early_stops c.args.self.now c.refusal.result w.if-self-eq0.true c.refusal.ensures
+  | then-self-eq0-via-else-self-eq0+then-not-sees w ↦ other_stops c.args.self.now c.refusal.result (sym w.sees.ensures.value ∙ w.if-not-sees.true) c.refusal.ensures
+]
 
 pub returns-then-self-gt0-clause-reads : goal.returns-then-self-gt0-clause-reads
 returns-then-self-gt0-clause-reads c =

@@ -26,5 +26,5 @@ pub returns-in_err-entry-2-clause-reads : goal.returns-in_err-entry-2-clause-rea
 returns-in_err-entry-2-clause-reads c =
     let e = c.in_err-entry-2.field-0.0 in
     let stops : Stops (some entry) (formed c.args.form.now) c.args.self.now e =
-      next_entry_stops c.args.form.now c.args.self.now c.loop-self.self c.loop-self.invariant.enters (sym c.sees.ensures.value ∙ c.loop-self-test.true) e c.in_err-entry-2.ensures.reads in
+    next_entry_stops c.args.form.now c.args.self.now c.loop-self.self c.loop-self.invariant.enters (sym c.sees.ensures.value ∙ c.loop-self-test.true) e c.in_err-entry-2.ensures.reads in
     grind (arith, common_steps)

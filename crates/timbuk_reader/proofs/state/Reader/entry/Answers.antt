@@ -18,23 +18,23 @@ pub returns-in_err-entry_arguments-clause-reads : goal.returns-in_err-entry_argu
 returns-in_err-entry_arguments-clause-reads c =
     let e = c.in_err-entry_arguments.field-0.0 in
     let stops : Stops entry (formed c.args.form.now) c.args.self.now e =
-      entry_stops_in_arguments c.args.form.now c.args.self.now c.entry_head.new.self c.in_ok-entry.entry c.in_ok-entry.ensures.ok e c.in_err-entry_arguments.ensures.reads in
+    entry_stops_in_arguments c.args.form.now c.args.self.now c.entry_head.new.self c.in_ok-entry.entry c.in_ok-entry.ensures.ok e c.in_err-entry_arguments.ensures.reads in
     grind (arith, common_steps)
 
 pub returns-in_err-mark-clause-reads : goal.returns-in_err-mark-clause-reads
 returns-in_err-mark-clause-reads c =
     let e = c.in_err-mark.field-0.0 in
     let stops : Stops entry (formed c.args.form.now) c.args.self.now e =
-      entry_stops_at_arrow c.args.form.now c.args.self.now c.entry_head.new.self c.in_ok-entry.entry c.in_ok-entry.ensures.ok
-        c.entry_arguments.new.self c.entry_arguments.new.entry c.in_ok-entry_arguments.ensures.reads e c.in_err-mark.ensures.takes in
+    entry_stops_at_arrow c.args.form.now c.args.self.now c.entry_head.new.self c.in_ok-entry.entry c.in_ok-entry.ensures.ok
+    c.entry_arguments.new.self c.entry_arguments.new.entry c.in_ok-entry_arguments.ensures.reads e c.in_err-mark.ensures.takes in
     grind (arith, common_steps)
 
 pub returns-in_err-target-clause-reads : goal.returns-in_err-target-clause-reads
 returns-in_err-target-clause-reads c =
     let e = c.in_err-target.field-0.0 in
     let stops : Stops entry (formed c.args.form.now) c.args.self.now e =
-      entry_stops_at_target c.args.form.now c.args.self.now c.entry_head.new.self c.in_ok-entry.entry c.in_ok-entry.ensures.ok
-        c.entry_arguments.new.self c.entry_arguments.new.entry c.in_ok-entry_arguments.ensures.reads c.mark.new.self c.in_ok-mark.ensures.takes e c.in_err-target.ensures.err in
+    entry_stops_at_target c.args.form.now c.args.self.now c.entry_head.new.self c.in_ok-entry.entry c.in_ok-entry.ensures.ok
+    c.entry_arguments.new.self c.entry_arguments.new.entry c.in_ok-entry_arguments.ensures.reads c.mark.new.self c.in_ok-mark.ensures.takes e c.in_err-target.ensures.err in
     grind (arith, common_steps)
 
 pub add_entry-requires-clause-started : goal.add_entry-requires-clause-started
@@ -48,6 +48,6 @@ pub returns-clause-reads : goal.returns-clause-reads
 returns-clause-reads c =
     let f = c.entry_arguments.new.entry in
     entry_leads c.args.form.now c.args.self.now c.entry_head.new.self c.in_ok-entry.entry c.in_ok-entry.ensures.ok
-      c.entry_arguments.new.self f c.in_ok-entry_arguments.ensures.reads c.mark.new.self c.in_ok-mark.ensures.takes c.add_entry.new.self
-      (target_leads f c.args.form.now c.in_ok-target.target c.mark.new.self c.entry_target.new.self c.add_entry.new.self (c.in_ok-entry_arguments.ensures.head.form ∙ c.in_ok-entry.ensures.new.form_is)
-        c.in_ok-target.ensures.ok c.in_ok-add_entry.ensures.added c.in_ok-add_entry.ensures.same c.in_ok-add_entry.ensures.tokens)
+    c.entry_arguments.new.self f c.in_ok-entry_arguments.ensures.reads c.mark.new.self c.in_ok-mark.ensures.takes c.add_entry.new.self
+    (target_leads f c.args.form.now c.in_ok-target.target c.mark.new.self c.entry_target.new.self c.add_entry.new.self (c.in_ok-entry_arguments.ensures.head.form ∙ c.in_ok-entry.ensures.new.form_is)
+    c.in_ok-target.ensures.ok c.in_ok-add_entry.ensures.added c.in_ok-add_entry.ensures.same c.in_ok-add_entry.ensures.tokens)

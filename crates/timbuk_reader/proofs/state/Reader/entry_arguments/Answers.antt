@@ -91,7 +91,7 @@ returns-in_err-entry_argument-2-clause-reads c =
     let f = c.loop-entry.entry in
     let less : length f.args < f.arity = omega arith in
     let stops : Stops (arguments (name place.EntryArgument)) (headed c.args.entry.now) c.args.self.now e =
-      next_stops c.args.self.now c.loop-entry.self c.args.entry.now f c.loop-entry.invariant.argues less c.next_argument.new.self e c.in_ok-next_argument.ensures c.in_err-entry_argument-2.ensures.reads in
+    next_stops c.args.self.now c.loop-entry.self c.args.entry.now f c.loop-entry.invariant.argues less c.next_argument.new.self e c.in_ok-next_argument.ensures c.in_err-entry_argument-2.ensures.reads in
     grind (arith, common_steps)
 
 pub returns-clause-reads : goal.returns-clause-reads

@@ -29,7 +29,7 @@ returns-then-len-ge-MAX_ENTRIES-clause-err c =
     let stands = c.in_ok-name.ensures.ok in
     let many : 1024 ≤ length r.entries = omega arith in
     word_stops (terminal.Named place.EntryHead) (formed form) r c.in_ok-name.name.now (kind.Limit limit.Entries) c.refusal.result tt (formed_calm form) stands
-      (head_full form r c.in_ok-name.name.now stands.short many) c.refusal.ensures
+    (head_full form r c.in_ok-name.name.now stands.short many) c.refusal.ensures
 
 pub returns-in_default-clause-err : goal.returns-in_default-clause-err
 returns-in_default-clause-err c =
@@ -38,7 +38,7 @@ returns-in_default-clause-err c =
     let stands = c.in_ok-name.ensures.ok in
     let few : length r.entries < 1024 = omega arith in
     word_stops (terminal.Named place.EntryHead) (formed form) r c.in_ok-name.name.now kind.UnknownName c.refusal-in_default.result tt (formed_calm form) stands
-      (head_unknown form r c.in_ok-name.name.now stands.short few (sym c.find.ensures.value ∙ c.in_default.is)) c.refusal-in_default.ensures
+    (head_unknown form r c.in_ok-name.name.now stands.short few (sym c.find.ensures.value ∙ c.in_default.is)) c.refusal-in_default.ensures
 
 pub unwrap-requires : goal.unwrap-requires
 unwrap-requires c =
@@ -55,5 +55,5 @@ returns-clause-ok c =
     let found : number_of r.signature c.in_ok-name.name.now ≡ Some c.in-Some.sym = sym c.find.ensures.value ∙ c.in-Some.is in
     let entry : StartedEntry = record { form = c.in_ok-copy.field-0; sym = c.in-Some.sym; arity = c.unwrap.result; args = c.new.result; own = c.new-2.result } in
     word_leads (terminal.Named place.EntryHead) (formed form) (headed entry) r u c.in_ok-name.name.now c.advance.result.now tt (formed_calm form) stands
-      (head_row form r c.in_ok-name.name.now stands.short few c.in-Some.sym found) c.advance.ensures.token c.advance.ensures.end
-      (head_declared form r u c.in_ok-name.name.now entry c.in_ok-copy.ensures found (sym c.arity.ensures ∙ c.unwrap.ensures) c.advance.ensures.state c.advance.ensures.bound)
+    (head_row form r c.in_ok-name.name.now stands.short few c.in-Some.sym found) c.advance.ensures.token c.advance.ensures.end
+    (head_declared form r u c.in_ok-name.name.now entry c.in_ok-copy.ensures found (sym c.arity.ensures ∙ c.unwrap.ensures) c.advance.ensures.state c.advance.ensures.bound)

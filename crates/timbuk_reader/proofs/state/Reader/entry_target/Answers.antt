@@ -19,7 +19,7 @@ pub returns-in_err-leaf-clause-err : goal.returns-in_err-leaf-clause-err
 returns-in_err-leaf-clause-err c =
     let e = c.in_err-leaf.field-0.0 in
     let stops : StopsName place.EntryTarget c.args.self.now e =
-      target_stops c.in_ok-name.name.now c.args.self.now c.in_ok-name.ensures.ok c.in-Some.target (sym c.find.ensures ∙ c.in-Some.is) c.leaf.new.self e c.in_err-leaf.ensures in
+    target_stops c.in_ok-name.name.now c.args.self.now c.in_ok-name.ensures.ok c.in-Some.target (sym c.find.ensures ∙ c.in-Some.is) c.leaf.new.self e c.in_err-leaf.ensures in
     grind (arith, common_steps)
 
 pub returns-clause-ok : goal.returns-clause-ok

@@ -11,10 +11,10 @@ returns-then-contains c =
     let own = c.args.own.now in
     let v = c.args.variable in
     let seen : c.if-is_bound.value ≡ (has bound v || has own v) =
-      elim c.if-is_bound.branch [
-        | then-is_bound w ↦ w.value-is ∙ w.if-is_bound.true ∙ sym (ap (λ b. b || has own v) (sym c.is_bound.ensures ∙ w.if-is_bound.true))
-        | else-is_bound w ↦ w.value-is ∙ w.contains.ensures ∙ sym (has_any own v) ∙ sym (ap (λ b. b || has own v) (sym c.is_bound.ensures ∙ w.if-is_bound.false))
-      ] in
+    elim c.if-is_bound.branch [
+      | then-is_bound w ↦ w.value-is ∙ w.if-is_bound.true ∙ sym (ap (λ b. b || has own v) (sym c.is_bound.ensures ∙ w.if-is_bound.true))
+      | else-is_bound w ↦ w.value-is ∙ w.contains.ensures ∙ sym (has_any own v) ∙ sym (ap (λ b. b || has own v) (sym c.is_bound.ensures ∙ w.if-is_bound.false))
+    ] in
     c.if-contains.true ∙ sym (ap (λ b. b || nat_lt (length bound + length own) 16) c.if-contains.true) ∙ room_is bound own v c.if-is_bound.value seen
 
 pub returns-else-contains : goal.returns-else-contains
@@ -23,9 +23,9 @@ returns-else-contains c =
     let own = c.args.own.now in
     let v = c.args.variable in
     let seen : c.if-is_bound.value ≡ (has bound v || has own v) =
-      elim c.if-is_bound.branch [
-        | then-is_bound w ↦ w.value-is ∙ w.if-is_bound.true ∙ sym (ap (λ b. b || has own v) (sym c.is_bound.ensures ∙ w.if-is_bound.true))
-        | else-is_bound w ↦ w.value-is ∙ w.contains.ensures ∙ sym (has_any own v) ∙ sym (ap (λ b. b || has own v) (sym c.is_bound.ensures ∙ w.if-is_bound.false))
-      ] in
+    elim c.if-is_bound.branch [
+      | then-is_bound w ↦ w.value-is ∙ w.if-is_bound.true ∙ sym (ap (λ b. b || has own v) (sym c.is_bound.ensures ∙ w.if-is_bound.true))
+      | else-is_bound w ↦ w.value-is ∙ w.contains.ensures ∙ sym (has_any own v) ∙ sym (ap (λ b. b || has own v) (sym c.is_bound.ensures ∙ w.if-is_bound.false))
+    ] in
     ap (λ n. nat_lt (n + length own) 16) c.len.ensures
     ∙ sym (ap (λ b. b || nat_lt (length bound + length own) 16) c.if-contains.false) ∙ room_is bound own v c.if-is_bound.value seen

@@ -16,7 +16,7 @@ returns-in_err-name-clause-err c =
 pub returns-in-Variable-clause-err : goal.returns-in-Variable-clause-err
 returns-in-Variable-clause-err c =
     crowded_leaf c.args.place c.requires.place c.args.own.now c.in_ok-name.name.now c.args.self.now c.in_ok-name.ensures.ok c.in-Variable.variable c.refusal.result
-      (sym c.meaning.ensures ∙ ap meant_by c.in-Variable.is) (sym c.has_room.ensures ∙ c.if-not-has_room.true) c.refusal.ensures
+    (sym c.meaning.ensures ∙ ap meant_by c.in-Variable.is) (sym c.has_room.ensures ∙ c.if-not-has_room.true) c.refusal.ensures
 
 pub returns-in-State-clause-ok : goal.returns-in-State-clause-ok
 returns-in-State-clause-ok c =
@@ -26,4 +26,4 @@ pub returns-in_default-clause-err : goal.returns-in_default-clause-err
 returns-in_default-clause-err c =
     let text = c.in_ok-name.name.now in
     unknown_leaf c.args.place c.requires.place c.args.own.now text c.args.self.now c.in_ok-name.ensures.ok c.refusal-in_default.result
-      (no_leaf c.args.place text (state_of c.args.self.now) c.meaning.result c.requires.place c.in_default.not-Variable c.in_default.not-State c.meaning.ensures) c.refusal-in_default.ensures
+    (no_leaf c.args.place text (state_of c.args.self.now) c.meaning.result c.requires.place c.in_default.not-Variable c.in_default.not-State c.meaning.ensures) c.refusal-in_default.ensures
