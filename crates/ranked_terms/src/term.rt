@@ -75,3 +75,22 @@ pub enum Shape {
     /// A symbol, by its number, and its arguments.
     App(u32, Seq<Shape>),
 }
+
+impl Shape {
+    /// An equal shape. The only error is want of memory.
+    pub fn copy(&self, alloc: Global) -> Result<Shape, AllocError>
+        ensures { IfOk result (λ copy. copy ≡ self.now) }
+    {
+        match self {
+            Shape::Var(var) => Ok(Shape::Var(*var)),
+            Shape::State(state) => Ok(Shape::State(*state)),
+            Shape::App(sym, args) => {
+                let mut copies = Seq::new(alloc);
+                for arg in args.as_slice() {
+                    copies.push(arg.copy(alloc)?)?;
+                }
+                Ok(Shape::App(*sym, copies))
+            }
+        }
+    }
+}

@@ -4,7 +4,7 @@ ghost use Rattle.std.specs.Ordering.{nat_cmp};
 ghost use Rattle.std.specs.List.Sorted.{IsStrictlySortedBy};
 ghost use Rattle.std.specs.BTreeSet.{insert_key};
 ghost use Rattle.ta_core.specs.Orders.{IsUnion};
-ghost use Rattle.ta_core.specs.TreeAutomaton.{IsSound, IsTransOf, bare, trans_of, trans_cmp, pair_cmp};
+ghost use Rattle.ta_core.specs.TreeAutomaton.{IsSound, IsTransOf, IsEpsOf, bare, trans_of, trans_cmp, pair_cmp};
 
 use crate::args::Args;
 use crate::sorted::Sorted;
@@ -226,6 +226,18 @@ impl Automaton {
         ensures err { OnErr result (self.new ≡ self.old) }
     {
         self.trans.add_all(more.into_vec())
+    }
+
+    /// Adds many epsilon transitions from a state to another one, in any order and as often as they stand there, by one sort
+    /// of all. At want of memory the automaton is as before.
+    pub fn add_all_eps(&mut self, more: Seq<(u32, u32)>) -> Result<(), AllocError>
+        requires { All (IsEpsOf self.old.states) more }
+        ensures members { OnOk result (IsUnion self.old.eps more self.new.eps) }
+        ensures sorted { OnOk result (IsStrictlySortedBy pair_cmp self.new.eps) }
+        ensures rest { OnOk result (self.new ≡ record self.old { eps = self.new.eps }) }
+        ensures err { OnErr result (self.new ≡ self.old) }
+    {
+        self.eps.add_all(more.into_vec())
     }
 
     /// Makes many states final, in any order and as often as they stand there, by one sort of all. At want of memory the

@@ -1,10 +1,11 @@
 -- What the verdicts of `run` rest on.
-use Rattle.std.proofs.Common.{◌≡◌, ℕ, ◌≤◌, List, Option, Some, None, IfSome, IsTrue, Bool, Result, Ok, Err, IfOk, ◌↔◌, length, arith, map, sym, subst, inl, refl, codes}
-use Rattle.std.specs.List.{All, range_with_len}
-use Rattle.std.proofs.lemmas.List.Elements.{All-map, All-weaker}
+use Rattle.std.proofs.Common.{◌≡◌, ◌≢◌, ℕ, ◌≤◌, List, [], ◌∷◌, Option, Some, None, IfSome, IsTrue, Bool, Result, Ok, Err, IfOk, ◌↔◌, length, arith, sym, subst, inl, refl, codes, string_bytes}
+use Rattle.std.specs.List.{All, AllZip, range_with_len}
+use Rattle.std.specs.Prelude.{String}
+use Rattle.std.specs.Global.{Global}
+use Rattle.std.proofs.lemmas.List.Elements.{All-nil, All-cons}
 use Rattle.std.specs.declared.alloc.AllocError.{AllocError}
 use Rattle.trs_rules.specs.Rules.{RewriteRule, IsRule}
-use Rattle.ranked_terms.specs.Names.{Symbol}
 use Rattle.ta_core.specs.TreeAutomaton.{IsSound}
 use Rattle.ta_core.specs.SpecRules.{automaton_is_over}
 use Rattle.ta_core.specs.Closure.{Closed}
@@ -13,18 +14,21 @@ use Rattle.ta_core.proofs.Closure.{closed_accepts_reached}
 use Rattle.ta_core.proofs.Containment.{contains_itself}
 use Rattle.ta_core.specs.declared.spec.Spec.{Spec}
 use Rattle.timbuk_cli.specs.Meeting.{HaveNoCommonTerm}
-use Rattle.timbuk_cli.specs.Glyphs.{Text}
 use Rattle.timbuk_cli.specs.Words.{file_of}
-use Rattle.timbuk_cli.specs.Source.{RuleDeclaration}
-use Rattle.timbuk_cli.specs.SpecText.{SpecText, IsAllowedRule, rule_of}
-use Rattle.timbuk_cli.proofs.OneSpec.{one_spec}
-use Rattle.timbuk_cli.specs.Output.{SettlesItself, IsSafe, Decides, Judges, Says, Answers, limit, line}
+use Rattle.timbuk_reader.specs.Source.{RuleDeclaration}
+use Rattle.timbuk_reader.specs.Naming.{Names}
+use Rattle.timbuk_reader.specs.SpecText.{IsRuleFrom, SpecText}
+use Rattle.timbuk_reader.proofs.OneSpec.{one_spec}
+use Rattle.timbuk_cli.specs.Output.{Text, SettlesItself, IsSafe, IsNoSpec, Decides, Judges, OfFile, Says, Answers, limit, line}
 use Rattle.timbuk_cli.specs.declared.status.Status.{Status}
 use Rattle.timbuk_cli.specs.declared.status.Status.TheVariants.{Unreachable, Undecided, BadWords, BadSpec, TooLong, ReadFault, WriteFault, Memory}
 
 -- the rules of a text are rules
-rules_are_rules : (declarations : List RuleDeclaration) (signature : List Symbol) (count : ℕ) → All (IsAllowedRule signature count) declarations → All IsRule (map rule_of declarations)
-rules_are_rules declarations signature count allowed = All-map IsRule rule_of declarations (All-weaker (IsAllowedRule signature count) (λ d. IsRule (rule_of d)) (λ d h. h.is_rule) declarations allowed)
+rules_are : (names : Names) (ds : List RuleDeclaration) (rules : List RewriteRule) → AllZip (IsRuleFrom names) ds rules → All IsRule rules
+rules_are names [] [] zip = All-nil IsRule
+rules_are names (d ∷ ds) (rule ∷ rules) zip = All-cons IsRule rule rules zip.0.is_rule (rules_are names ds rules zip.1)
+rules_are names [] (rule ∷ rules) zip = absurd zip
+rules_are names (d ∷ ds) [] zip = absurd zip
 
 -- where the initial automaton is closed and misses the forbidden language, it settles the question
 pub settled_by : (spec : Spec) → IsSound spec.initial → Closed spec.initial spec.rules → HaveNoCommonTerm spec.initial spec.forbidden → SettlesItself spec
@@ -48,7 +52,7 @@ meets_unsettled spec over meets settles = meets (λ t one other.
 -- where the initial automaton settles the question, it accepts what is reachable, and no such term is forbidden
 pub settled_is_safe : (bytes : List ℕ) (spec : Spec) → SpecText bytes spec → IsSound spec.initial → SettlesItself spec → IsSafe bytes
 settled_is_safe bytes spec text sound settles =
-    let rules = subst (All IsRule) (sym text.declares.rules) (rules_are_rules text.source.rules _ _ text.allowed.rules.allowed) in
+    let rules = rules_are _ _ spec.rules text.spells.rules in
     record {
       spec = spec;
       text = text;
@@ -57,57 +61,69 @@ settled_is_safe bytes spec text sound settles =
       safe = accepted_is_safe spec spec.initial (range_with_len 0 spec.initial.next) sound rules settles;
     }
 
--- the verdict on a specification is the verdict on its text
-pub judged_by : (bytes : List ℕ) (spec : Spec) → SpecText bytes spec → IsSound spec.initial → (status : Status) → Decides spec status → Judges bytes status
-judged_by bytes spec text sound Unreachable settles = settled_is_safe bytes spec text sound settles
-judged_by bytes spec text sound Undecided unsettled = record { spec = spec; text = text; unsettled = unsettled }
-judged_by bytes spec text sound BadWords none = absurd none
-judged_by bytes spec text sound BadSpec none = absurd none
-judged_by bytes spec text sound TooLong none = absurd none
-judged_by bytes spec text sound ReadFault none = absurd none
-judged_by bytes spec text sound WriteFault none = absurd none
-judged_by bytes spec text sound Memory none = absurd none
+-- the verdict on a specification is what its text has
+judged_by : (bytes text : List ℕ) (spec : Spec) → SpecText bytes spec → IsSound spec.initial → (status : Status) → Decides spec text status → Judges bytes text status
+judged_by bytes text spec spelled sound Unreachable (settles, told) = (settled_is_safe bytes spec spelled sound settles, told)
+judged_by bytes text spec spelled sound Undecided (unsettled, told) = (record { spec = spec; text = spelled; unsettled = unsettled }, told)
+judged_by bytes text spec spelled sound BadWords none = absurd none
+judged_by bytes text spec spelled sound BadSpec none = absurd none
+judged_by bytes text spec spelled sound TooLong none = absurd none
+judged_by bytes text spec spelled sound ReadFault none = absurd none
+judged_by bytes text spec spelled sound WriteFault none = absurd none
+judged_by bytes text spec spelled sound Memory none = absurd none
+
+-- the same of an answer
+pub judged_of : (bytes : List ℕ) (spec : Spec) → SpecText bytes spec → IsSound spec.initial → (answer : Result (Status × String Global) AllocError) → IfOk answer (λ a. Decides spec (string_bytes a.1) a.0) → IfOk answer (λ a. Judges bytes (string_bytes a.1) a.0)
+judged_of bytes spec spelled sound (Ok a) decides = judged_by bytes (string_bytes a.1) spec spelled sound a.0 decides
+judged_of bytes spec spelled sound (Err e) decides = tt
 
 -- two specifications of one text settle the question together
 same_settled : (bytes : List ℕ) (a b : Spec) → SpecText bytes a → SpecText bytes b → SettlesItself a → SettlesItself b
 same_settled bytes a b text other settles = subst SettlesItself (one_spec bytes a b text other) settles
 
 module _ (words : List Text) (given : Text → Option (List ℕ)) (name : Text) (is : file_of words ≡ Some name) where
-  -- a fact of what is told of the file, at these bytes
+  -- what was told of the file
   told : (P : List ℕ → Type 0) (other : Text) (bytes : List ℕ) → file_of words ≡ Some other → given other ≡ Some bytes → IfSome (given name) P → P bytes
   told P other bytes named says fact =
       let same : name ≡ other = cc in
       subst (λ o. IfSome o P) says (subst (λ n. IfSome (given n) P) same fact)
 
+  -- a fact of the bytes that were read is one of those that were told
+  of_told : (P : List ℕ → Type 0) (other : Text) (bytes : List ℕ) → file_of words ≡ Some other → given other ≡ Some bytes → OfFile (given name) P → (length bytes ≤ limit) × P bytes
+  of_told P other bytes named says file =
+      let same : file.bytes ≡ bytes = told (λ b. file.bytes ≡ b) other bytes named says file.are_told in
+      (subst (λ b. length b ≤ limit) same file.few, subst P same file.holds)
+
   named : file_of words ≡ None → ⊥
   named none = cc
 
+  -- an answer that says something of the bytes
+  judged : (text : Text) (status : Status) → OfFile (given name) (λ bytes. Judges bytes text status)
+      → ((bytes : List ℕ) → Judges bytes text status → IsNoSpec bytes → status ≡ BadSpec)
+      → ((bytes : List ℕ) (spec : Spec) → Judges bytes text status → SpecText bytes spec → SettlesItself spec → status ≡ Unreachable)
+      → ((bytes : List ℕ) (spec : Spec) → Judges bytes text status → SpecText bytes spec → (SettlesItself spec → ⊥) → status ≡ Undecided)
+      → Answers words given status
+  judged text status file bad safe unsettled = record {
+    bad_words = λ none. absurd (named none);
+    too_long = λ other bytes is_file tells long. absurd (omega (arith, (of_told _ other bytes is_file tells file).0));
+    bad_spec = λ other bytes is_file tells short none. inl (bad bytes (of_told _ other bytes is_file tells file).1 none);
+    unreachable = λ other bytes spec is_file tells short spelled settles. inl (safe bytes spec (of_told _ other bytes is_file tells file).1 spelled settles);
+    undecided = λ other bytes spec is_file tells short spelled open_question. inl (unsettled bytes spec (of_told _ other bytes is_file tells file).1 spelled open_question);
+  }
+
   pub answers : (rose : Type 0) (text : Text) (status : Status) → (rose → ⊥) → Says name (given name) rose text status → Answers words given status
-  answers rose text Unreachable quiet says = record {
-    bad_words = λ none. absurd (named none);
-    too_long = λ other bytes file tells long. absurd (omega (arith, (told _ other bytes file tells says.0).0));
-    bad_spec = λ other bytes file tells short none. let safe = (told _ other bytes file tells says.0).1 in absurd (none safe.spec safe.text);
-    unreachable = λ other bytes spec file tells short text settles. inl refl;
-    undecided = λ other bytes spec file tells short text unsettled.
-        let safe = (told _ other bytes file tells says.0).1 in
-        absurd (unsettled (same_settled bytes safe.spec spec safe.text text safe.settles));
-  }
-  answers rose text Undecided quiet says = record {
-    bad_words = λ none. absurd (named none);
-    too_long = λ other bytes file tells long. absurd (omega (arith, (told _ other bytes file tells says.0).0));
-    bad_spec = λ other bytes file tells short none. let found = (told _ other bytes file tells says.0).1 in absurd (none found.spec found.text);
-    unreachable = λ other bytes spec file tells short text settles.
-        let found = (told _ other bytes file tells says.0).1 in
-        absurd (found.unsettled (same_settled bytes spec found.spec text found.text settles));
-    undecided = λ other bytes spec file tells short text unsettled. inl refl;
-  }
-  answers rose text BadSpec quiet says = record {
-    bad_words = λ none. absurd (named none);
-    too_long = λ other bytes file tells long. absurd (omega (arith, (told _ other bytes file tells says.0).0));
-    bad_spec = λ other bytes file tells short none. inl refl;
-    unreachable = λ other bytes spec file tells short text settles. absurd ((told _ other bytes file tells says.0).1 spec text);
-    undecided = λ other bytes spec file tells short text unsettled. absurd ((told _ other bytes file tells says.0).1 spec text);
-  }
+  answers rose text Unreachable quiet says = judged text Unreachable says
+      (λ bytes h none. absurd (none h.0.spec h.0.text))
+      (λ bytes spec h spelled settles. refl)
+      (λ bytes spec h spelled open_question. absurd (open_question (same_settled bytes h.0.spec spec h.0.text spelled h.0.settles)))
+  answers rose text Undecided quiet says = judged text Undecided says
+      (λ bytes h none. absurd (none h.0.spec h.0.text))
+      (λ bytes spec h spelled settles. absurd (h.0.unsettled (same_settled bytes spec h.0.spec spelled h.0.text settles)))
+      (λ bytes spec h spelled open_question. refl)
+  answers rose text BadSpec quiet says = judged text BadSpec says
+      (λ bytes h none. refl)
+      (λ bytes spec h spelled settles. absurd (h.none spec spelled))
+      (λ bytes spec h spelled open_question. absurd (h.none spec spelled))
   answers rose text TooLong quiet says = record {
     bad_words = λ none. absurd (named none);
     too_long = λ other bytes file tells long. inl refl;
@@ -116,23 +132,22 @@ module _ (words : List Text) (given : Text → Option (List ℕ)) (name : Text) 
     undecided = λ other bytes spec file tells short text unsettled. absurd (omega (arith, told _ other bytes file tells says.0));
   }
   answers rose text ReadFault quiet says = absurd (quiet says.0)
-  answers rose text BadWords quiet says = absurd says
-  answers rose text WriteFault quiet says = absurd says
-  answers rose text Memory quiet says = absurd says
+  answers rose text BadWords quiet says = absurd says.holds
+  answers rose text WriteFault quiet says = absurd says.holds
+  answers rose text Memory quiet says = absurd says.holds
 
--- what was read whole is what was told
-pub whole : (given : Option (List ℕ)) (items : List ℕ) (P : List ℕ → Type 0) → IfSome given (λ bytes. (items ≡ bytes) × (length bytes ≤ limit)) → P items → IfSome given (λ bytes. (length bytes ≤ limit) × P bytes)
-whole None items P told holds = tt
-whole (Some bytes) items P told holds = (told.1, subst P told.0 holds)
+-- the judgement on the bytes that were read is what is said of the file
+pub said : (name : Text) (given : Option (List ℕ)) (rose : Type 0) (text bytes : List ℕ) (status : Status) → length bytes ≤ limit → IfSome given (λ told. bytes ≡ told) → Judges bytes text status → Says name given rose text status
+said name given rose text bytes Unreachable few told judges = record { bytes = bytes; few = few; are_told = told; holds = judges }
+said name given rose text bytes Undecided few told judges = record { bytes = bytes; few = few; are_told = told; holds = judges }
+said name given rose text bytes BadSpec few told judges = record { bytes = bytes; few = few; are_told = told; holds = judges }
+said name given rose text bytes BadWords few told judges = absurd judges
+said name given rose text bytes TooLong few told judges = absurd judges
+said name given rose text bytes ReadFault few told judges = absurd judges
+said name given rose text bytes WriteFault few told judges = absurd judges
+said name given rose text bytes Memory few told judges = absurd judges
 
--- the verdict on the bytes that were read, with its line, is what is said of the file
-pub said : (name : Text) (given : Option (List ℕ)) (rose : Type 0) (text bytes : List ℕ) (verdict : Status) → IfSome given (λ told. (bytes ≡ told) × (length told ≤ limit)) → Judges bytes verdict
-    → (verdict ≡ Unreachable → text ≡ line (codes "Verdict unreachable")) → (verdict ≡ Undecided → text ≡ line (codes "Verdict undecided")) → (verdict ≡ BadSpec → text ≡ line (codes "Bad specification")) → Says name given rose text verdict
-said name given rose text bytes Unreachable told judged safe unsettled bad = (whole given bytes (λ b. Judges b Unreachable) told judged, safe refl)
-said name given rose text bytes Undecided told judged safe unsettled bad = (whole given bytes (λ b. Judges b Undecided) told judged, unsettled refl)
-said name given rose text bytes BadSpec told judged safe unsettled bad = (whole given bytes (λ b. Judges b BadSpec) told judged, bad refl)
-said name given rose text bytes BadWords told judged safe unsettled bad = absurd judged
-said name given rose text bytes TooLong told judged safe unsettled bad = absurd judged
-said name given rose text bytes ReadFault told judged safe unsettled bad = absurd judged
-said name given rose text bytes WriteFault told judged safe unsettled bad = absurd judged
-said name given rose text bytes Memory told judged safe unsettled bad = absurd judged
+-- the same of an answer
+pub said_of : (name : Text) (given : Option (List ℕ)) (rose : Type 0) (bytes : List ℕ) (answer : Result (Status × String Global) AllocError) → length bytes ≤ limit → IfSome given (λ told. bytes ≡ told) → IfOk answer (λ a. Judges bytes (string_bytes a.1) a.0) → IfOk answer (λ a. Says name given rose (string_bytes a.1) a.0)
+said_of name given rose bytes (Ok a) few told judges = said name given rose (string_bytes a.1) bytes a.0 few told judges
+said_of name given rose bytes (Err e) few told judges = tt

@@ -1,16 +1,7 @@
-pub mod Vocabulary
-pub mod Glyphs
-pub mod Source
-pub mod Sections
-pub mod SpecText
-pub mod Laws
 pub mod Words
+pub mod FaultText
 pub mod Output
 pub mod Codes
-pub mod NameTables
-pub mod Reading
-pub mod Parts
-pub mod Reads
 pub mod Closing
 pub mod Meeting
 pub mod Slots

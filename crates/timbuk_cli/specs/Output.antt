@@ -7,11 +7,16 @@ use Rattle.ta_core.specs.declared.spec.Spec.{Spec}
 use Rattle.ta_core.specs.Languages.{Accepts}
 use Rattle.ta_core.specs.Acceptance.{IsAccepted}
 use Rattle.ta_core.specs.Reachability.{Reachable, Forbidden}
-use Rattle.timbuk_cli.specs.Glyphs.{Text}
+use Rattle.timbuk_reader.specs.declared.fault.SpecFault.{SpecFault}
+use Rattle.timbuk_reader.specs.SpecText.{SpecText}
+use Rattle.timbuk_reader.specs.Faults.{SpecFaultAt}
 use Rattle.timbuk_cli.specs.Words.{file_of}
-use Rattle.timbuk_cli.specs.SpecText.{SpecText}
+use Rattle.timbuk_cli.specs.FaultText.{fault_line}
 use Rattle.timbuk_cli.specs.declared.status.Status.{Status}
 use Rattle.timbuk_cli.specs.declared.status.Status.TheVariants.{Unreachable, Undecided, BadWords, BadSpec, TooLong, ReadFault, WriteFault, Memory}
+
+abbrev pub Text : Type 0
+Text = List ℕ
 
 -- the largest number of bytes of a specification
 abbrev pub limit : ℕ
@@ -42,31 +47,41 @@ pub record IsUnsettled (bytes : List ℕ) : Type 0 where
 abbrev pub IsNoSpec : List ℕ → Type 0
 IsNoSpec bytes = (spec : Spec) → SpecText bytes spec → ⊥
 
--- the status of a specification
-abbrev pub Decides : Spec → Status → Type 0
-Decides spec Unreachable = SettlesItself spec
-Decides spec Undecided = SettlesItself spec → ⊥
-Decides spec _ = ⊥
-
--- the status that the bytes of a file have
-abbrev pub Judges : List ℕ → Status → Type 0
-Judges bytes Unreachable = IsSafe bytes
-Judges bytes Undecided = IsUnsettled bytes
-Judges bytes BadSpec = IsNoSpec bytes
-Judges bytes _ = ⊥
-
 abbrev pub line : Text → Text
 line text = text ++ 10 ∷ []
 
--- A text and its status for the file of a name. `given` is what was told of its bytes; where nothing was told, the status rests on
--- bytes that no clause knows. `rose` says that the file's count of faults rose.
+-- the text and the status of a specification
+abbrev pub Decides : Spec → Text → Status → Type 0
+Decides spec text Unreachable = SettlesItself spec × (text ≡ line (codes "Verdict unreachable"))
+Decides spec text Undecided = (SettlesItself spec → ⊥) × (text ≡ line (codes "Verdict undecided"))
+Decides spec text _ = ⊥
+
+-- the bytes are no specification, and this is the line for their first fault
+pub record IsFaulty (bytes : List ℕ) (text : Text) : Type 0 where
+  pub none : IsNoSpec bytes
+  pub fault : SpecFault
+  pub first : SpecFaultAt bytes fault
+  pub told : text ≡ fault_line fault
+
+-- the text and the status that the bytes of a file have
+abbrev pub Judges : List ℕ → Text → Status → Type 0
+Judges bytes text Unreachable = IsSafe bytes × (text ≡ line (codes "Verdict unreachable"))
+Judges bytes text Undecided = IsUnsettled bytes × (text ≡ line (codes "Verdict undecided"))
+Judges bytes text BadSpec = IsFaulty bytes text
+Judges bytes text _ = ⊥
+
+-- the fact holds of the bytes that were read: those that were told, where they were
+pub record OfFile (given : Option (List ℕ)) (P : List ℕ → Type 0) : Type 0 where
+  pub bytes : List ℕ
+  pub few : length bytes ≤ limit
+  pub are_told : IfSome given (λ told. bytes ≡ told)
+  pub holds : P bytes
+
+-- A text and its status for the file of a name. `given` is what was told of its bytes; `rose` says that the file's count of faults rose.
 abbrev pub Says : Text → Option (List ℕ) → Type 0 → Text → Status → Type 0
-Says name given rose text Unreachable = IfSome given (λ bytes. (length bytes ≤ limit) × Judges bytes Unreachable) × (text ≡ line (codes "Verdict unreachable"))
-Says name given rose text Undecided = IfSome given (λ bytes. (length bytes ≤ limit) × Judges bytes Undecided) × (text ≡ line (codes "Verdict undecided"))
-Says name given rose text BadSpec = IfSome given (λ bytes. (length bytes ≤ limit) × Judges bytes BadSpec) × (text ≡ line (codes "Bad specification"))
 Says name given rose text TooLong = IfSome given (λ bytes. limit < length bytes) × (text ≡ line (codes "Too long " ++ name))
 Says name given rose text ReadFault = rose × (text ≡ line (codes "Cannot read " ++ name))
-Says name given rose text _ = ⊥
+Says name given rose text status = OfFile given (λ bytes. Judges bytes text status)
 
 -- ---- what a run writes and answers
 

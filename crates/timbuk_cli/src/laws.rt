@@ -1,7 +1,6 @@
-//! What `run` says where the files or the output never fail, and what holds of the format.
+//! What `run` says where the files or the output never fail.
 ghost use Rattle.std.specs.Prelude.{◌≢◌, map, string_bytes};
 ghost use Rattle.tim_io.specs.Causes.{Rose};
-ghost use Rattle.timbuk_cli.specs.Laws.{OneSpec};
 ghost use Rattle.timbuk_cli.specs.Output.{Ran};
 
 use crate::run::run;
@@ -40,8 +39,3 @@ pub fn run_to_honest_output<F: Shelf>(
 {
     run(alloc, words, shelf, out)
 }
-
-/// No text has two specifications: what one reads in a text is what all read in it.
-pub fn no_text_has_two_specs()
-    ensures { OneSpec }
-{}

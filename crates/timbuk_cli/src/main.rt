@@ -9,9 +9,9 @@ ghost use Rattle.std.specs.Prelude.{◌≡◌, ◌≢◌};
 ghost use Rattle.std.specs.IoError.{error_kind};
 
 mod closure;
+mod fault_line;
 pub mod laws;
 mod missing;
-pub mod reader;
 pub mod run;
 pub mod status;
 #[cfg(test)]

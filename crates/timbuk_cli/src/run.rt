@@ -7,13 +7,14 @@ ghost use Rattle.timbuk_cli.specs.Words.{file_of};
 ghost use Rattle.timbuk_cli.specs.Output.{SettlesItself, line, Decides, Judges, Says, Ran, Answers};
 
 use crate::closure::is_closed;
+use crate::fault_line::fault_line;
 use crate::missing::have_no_common_term;
-use crate::reader::{SpecError, read_spec};
 use crate::status::Status;
 use crate::words::file_word;
 use std::alloc::{AllocError, Global};
 use ta_core::Spec;
 use tim_io::{ReadError, Shelf, Sink, read_all, write_all};
+use timbuk_reader::{SpecError, read_spec};
 
 /// The largest number of bytes of a specification.
 const MAX_SPEC: usize = 1048576;
@@ -33,43 +34,33 @@ fn settles_itself(alloc: Global, spec: &Spec) -> Result<bool, AllocError>
     is_closed(alloc, &spec.initial, spec.rules.as_slice())
 }
 
-/// The verdict on a specification: `Unreachable` exactly where its initial automaton is closed under its rules and accepts
-/// no forbidden term, and else `Undecided`. The only error is want of memory.
-fn verdict(alloc: Global, spec: &Spec) -> Result<Status, AllocError>
-    ensures exact { IfOk result (Decides spec.now) }
+/// The verdict on a specification, with its line: `Unreachable` exactly where its initial automaton is closed under its
+/// rules and accepts no forbidden term, and else `Undecided`. The only error is want of memory.
+fn verdict(alloc: Global, spec: &Spec) -> Result<(Status, String), AllocError>
+    ensures exact { IfOk result (λ a. Decides spec.now (string_bytes a.1) a.0) }
     ensures sound { IsSound spec.now.initial }
 {
     // Its contract says what holds of every automaton.
     let _ = spec.initial.states();
     if settles_itself(alloc, spec)? {
-        Ok(Status::Unreachable)
+        let line = String::from_str(alloc, "Verdict unreachable\n")?;
+        Ok((Status::Unreachable, line))
     } else {
-        Ok(Status::Undecided)
+        let line = String::from_str(alloc, "Verdict undecided\n")?;
+        Ok((Status::Undecided, line))
     }
 }
 
-/// The verdict on the bytes of a file. The only error is want of memory.
-fn judge(alloc: Global, bytes: &[u8]) -> Result<Status, AllocError>
+/// What is said of the bytes of a file: the verdict on the specification that they spell, or their first fault. The only
+/// error is want of memory.
+fn judge(alloc: Global, bytes: &[u8]) -> Result<(Status, String), AllocError>
     requires { length bytes.now ≤ 1048576 }
-    ensures { IfOk result (Judges bytes.now) }
+    ensures { IfOk result (λ a. Judges bytes.now (string_bytes a.1) a.0) }
 {
     match read_spec(alloc, bytes) {
         Ok(spec) => verdict(alloc, &spec),
-        Err(SpecError::Unread) => Ok(Status::BadSpec),
+        Err(SpecError::Fault(fault)) => Ok((Status::BadSpec, fault_line(alloc, fault)?)),
         Err(SpecError::Memory) => Err(AllocError),
-    }
-}
-
-/// The line for the verdict on a file.
-fn verdict_line(verdict: Status) -> &'static str
-    ensures unreachable { verdict ≡ Status.Unreachable → result.now ≡ line (codes "Verdict unreachable") }
-    ensures undecided { verdict ≡ Status.Undecided → result.now ≡ line (codes "Verdict undecided") }
-    ensures bad_spec { verdict ≡ Status.BadSpec → result.now ≡ line (codes "Bad specification") }
-{
-    match verdict {
-        Status::Unreachable => "Verdict unreachable\n",
-        Status::Undecided => "Verdict undecided\n",
-        _ => "Bad specification\n",
     }
 }
 
@@ -102,8 +93,7 @@ fn answer<F: Shelf>(
         Err(ReadError::TooLong) => return refusal(alloc, Status::TooLong, "Too long", name),
         Err(ReadError::Memory) => return Err(AllocError),
     };
-    let verdict = judge(alloc, bytes.as_slice())?;
-    Ok((verdict, String::from_str(alloc, verdict_line(verdict))?))
+    judge(alloc, bytes.as_slice())
 }
 
 /// Does what the words say, over the files of the shelf, and writes what there is to say to the sink.

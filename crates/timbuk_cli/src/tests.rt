@@ -1,6 +1,5 @@
 //! What no clause says: the worked rows, the printed texts, failing devices, and that the calls succeed with ample memory.
 use crate::laws::{run_over_honest_files, run_to_honest_output};
-use crate::reader::{SpecError, read_spec};
 use crate::run::run;
 use crate::status::Status;
 use ranked_terms::Seq;
@@ -8,6 +7,7 @@ use std::alloc::{AllocError, Global};
 use std::test::Fail;
 use tim_io::{HonestShelf, HonestSink, MemShelf, MemSink};
 
+mod faults;
 mod forbidden;
 mod verdicts;
 
@@ -98,7 +98,7 @@ fn runs_over_objects_in_memory(rt: HostRuntime) -> Result<(), Fail> {
             piece: 1000,
             write_fails: &[],
             status: Status::BadSpec,
-            written: b"Bad specification\n",
+            written: b"Bad specification line 1 column 1: Expected\n",
         },
         Case {
             shows: "the empty file",
@@ -109,7 +109,7 @@ fn runs_over_objects_in_memory(rt: HostRuntime) -> Result<(), Fail> {
             piece: 1000,
             write_fails: &[],
             status: Status::BadSpec,
-            written: b"Bad specification\n",
+            written: b"Bad specification line 1 column 1: NoInitial\n",
         },
         Case {
             shows: "a name that is not there",

@@ -13,6 +13,7 @@ pub use laws::{lexing_law, word_law};
 pub use lex::{Ending, Lexed, lex_of};
 pub use lexeme::{Lexeme, Slice, TokenKind};
 pub use piece::LexFault;
+pub use place::{Place, end_of};
 
 #[cfg(test)]
 mod tests;

@@ -1,5 +1,5 @@
 //! Lines and columns.
-ghost use Rattle.std.specs.Prelude.{◌≡◌, ◌≤◌, ◌<◌, ◌+◌, ◌^◌, ◌++◌, List, ℕ, [], length};
+ghost use Rattle.std.specs.Prelude.{◌≡◌, ◌≤◌, ◌<◌, ◌+◌, ◌-◌, ◌^◌, ◌++◌, List, ℕ, [], length};
 ghost use Rattle.timbuk_lex.specs.Places.{IsPlace};
 
 /// A line and a column, both counted from 1.
@@ -36,4 +36,12 @@ impl Place {
         }
         place
     }
+}
+
+/// The place after the last byte of a text of fewer than 4,294,967,295 bytes, so that lines and columns fit.
+pub fn end_of(bytes: &[u8]) -> Place
+    requires { length bytes.now < 2 ^ 32 - 1 }
+    ensures { IsPlace result bytes.now }
+{
+    Place::first().after(bytes)
 }

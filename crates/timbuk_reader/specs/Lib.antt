@@ -8,3 +8,13 @@ pub mod Spelled
 pub mod Faults
 pub mod Laws
 pub mod Tokens
+pub mod NameTables
+pub mod View
+pub mod Reads
+pub mod Kept
+pub mod Patterns
+pub mod Meanings
+pub mod Sides
+pub mod AutomatonReads
+pub mod SectionReads
+pub mod ApproximationReads

@@ -1,4 +1,5 @@
 //! Faults of an input text: what is wrong, and where.
+use std::alloc::AllocError;
 
 /// What is wrong with an input text. Where several of these fit one place, the first in this order is told.
 #[derive(Clone, Copy, Debug, Drop, PartialEq, Eq)]
@@ -73,4 +74,24 @@ pub struct SpecFault {
     pub line: u32,
     /// The column, counted in bytes of the line from 1.
     pub column: u32,
+}
+
+/// Why no specification was read.
+#[derive(Clone, Copy, Debug, Drop, PartialEq, Eq)]
+pub enum SpecError {
+    /// The text has this fault, and none before it.
+    Fault(SpecFault),
+    /// There is no memory.
+    Memory,
+}
+
+impl From<AllocError> for SpecError {
+    ghost use Rattle.std.specs.Prelude.{◌≡◌};
+    ghost use Rattle.timbuk_reader.specs.declared.fault.SpecError.TheVariants.{Memory};
+
+    ghost from_gives = { λ _ e. e ≡ Memory };
+
+    fn from(_: AllocError) -> SpecError {
+        SpecError::Memory
+    }
 }

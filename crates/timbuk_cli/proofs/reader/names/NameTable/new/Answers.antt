@@ -1,5 +1,0 @@
-use Rattle.timbuk_cli.proofs.NameTables.{texts-empty}
-use Rattle.timbuk_cli.proofs.reader.names.NameTable.new.Goals as goal
-
-pub invariant_of-result : goal.invariant_of-result
-invariant_of-result c = texts-empty c.new.result.keys c.new.ensures.empty

@@ -1,0 +1,469 @@
+//! What is said of faulty texts: kinds and places that were worked out by hand from the table of faults.
+use super::verdicts::complete;
+use crate::status::Status;
+use std::alloc::{AllocError, Global};
+use std::test::Fail;
+
+#[test]
+fn faults_are_told_with_their_kind_and_place(rt: HostRuntime) -> Result<(), Fail> {
+    let rows: [(&str, &str, &str); 67] = [
+        ("a dash alone", "Ops a:0 -", "line 1 column 9: BadByte"),
+        (
+            "a byte that begins no token",
+            "Ops a:0\n;",
+            "line 2 column 1: BadByte",
+        ),
+        (
+            "a byte behind a symbol with arguments",
+            "Ops f:2 g:1 a:0 Vars x y TRS R g -",
+            "line 1 column 34: BadByte",
+        ),
+        (
+            "a comment without an end",
+            "Ops a:0 (* x",
+            "line 1 column 9: OpenComment",
+        ),
+        (
+            "a comment that opens as it seems to close",
+            "Ops a:0 (*)",
+            "line 1 column 9: OpenComment",
+        ),
+        (
+            "a text without an end",
+            "Ops f:2 g:1 a:0 Vars x y TRS R a \"x",
+            "line 1 column 34: OpenText",
+        ),
+        (
+            "a text behind a symbol with arguments",
+            "Ops f:2 g:1 a:0 Vars x y TRS R g \"",
+            "line 1 column 34: OpenText",
+        ),
+        (
+            "a closed word for a section",
+            "Ops a:0\nSet A",
+            "line 2 column 1: UnknownSection",
+        ),
+        (
+            "a closed word for a name",
+            "Ops Import:0",
+            "line 1 column 5: UnknownSection",
+        ),
+        (
+            "a closed word for an arity",
+            "Ops f:Patterns",
+            "line 1 column 7: UnknownSection",
+        ),
+        (
+            "a closed word behind a symbol with arguments",
+            "Ops f:2 g:1 a:0 Vars x y TRS R g Set",
+            "line 1 column 34: UnknownSection",
+        ),
+        (
+            "a closed word behind an arrow",
+            "Ops f:2 g:1 a:0 Vars x y TRS R a -> Import",
+            "line 1 column 37: UnknownSection",
+        ),
+        ("the empty file", "", "line 1 column 1: NoInitial"),
+        (
+            "a system alone",
+            "Ops a:0 TRS R a -> a",
+            "line 1 column 21: NoInitial",
+        ),
+        (
+            "the end behind a newline",
+            "Ops f:16 a:0 Vars x\n",
+            "line 2 column 1: NoInitial",
+        ),
+        (
+            "a symbol without its arguments",
+            "Ops f:2 g:1 a:0 Vars x y TRS R g -> x",
+            "line 1 column 34: WrongArity",
+        ),
+        (
+            "a section word behind a symbol with arguments",
+            "Ops f:2 g:1 a:0 Vars x y TRS R g TRS",
+            "line 1 column 34: WrongArity",
+        ),
+        (
+            "empty parentheses",
+            "Ops f:2 g:1 a:0 Vars x y TRS R g()",
+            "line 1 column 34: WrongArity",
+        ),
+        (
+            "too few arguments",
+            "Ops f:2 g:1 a:0 Vars x y TRS R f(x)",
+            "line 1 column 35: WrongArity",
+        ),
+        (
+            "a parenthesis behind a comma",
+            "Ops f:2 g:1 a:0 Vars x y TRS R f(x,)",
+            "line 1 column 36: WrongArity",
+        ),
+        (
+            "too many arguments",
+            "Ops f:2 g:1 a:0 Vars x y TRS R f(x,y,a)",
+            "line 1 column 37: WrongArity",
+        ),
+        (
+            "arguments of a constant",
+            "Ops f:2 g:1 a:0 Vars x y TRS R a(x)",
+            "line 1 column 33: WrongArity",
+        ),
+        (
+            "a transition without arguments",
+            "Ops f:2 g:1 a:0 Vars x y Automaton A States q r Final States q Transitions g -> q",
+            "line 1 column 78: WrongArity",
+        ),
+        (
+            "a transition with too few arguments",
+            "Ops f:2 g:1 a:0 Vars x y Automaton A States q r Final States q Transitions f(q) -> q",
+            "line 1 column 79: WrongArity",
+        ),
+        (
+            "a transition with too many arguments",
+            "Ops f:2 g:1 a:0 Vars x y Automaton A States q r Final States q Transitions g(q,r) -> q",
+            "line 1 column 79: WrongArity",
+        ),
+        ("one byte that is no text", ")", "line 1 column 1: Expected"),
+        (
+            "an arity that is no number",
+            "Ops f:x",
+            "line 1 column 7: Expected",
+        ),
+        (
+            "the end behind a name",
+            "Ops f",
+            "line 1 column 6: Expected",
+        ),
+        (
+            "the end behind a symbol with arguments",
+            "Ops f:2 g:1 a:0 Vars x y TRS R g",
+            "line 1 column 33: Expected",
+        ),
+        (
+            "the end inside arguments",
+            "Ops f:1\nVars x\nTRS R\nf(",
+            "line 4 column 3: Expected",
+        ),
+        (
+            "a comma first",
+            "Ops f:2 g:1 a:0 Vars x y TRS R f(,",
+            "line 1 column 34: Expected",
+        ),
+        (
+            "two commas",
+            "Ops f:2 g:1 a:0 Vars x y TRS R f(x,,y)",
+            "line 1 column 36: Expected",
+        ),
+        (
+            "arguments of a variable",
+            "Ops f:2 g:1 a:0 Vars x y TRS R g(x(",
+            "line 1 column 35: Expected",
+        ),
+        (
+            "arguments of a state",
+            "Ops f:2 g:1 a:0 Vars x y Automaton A States q r Final States q Transitions q(r) -> q",
+            "line 1 column 77: Expected",
+        ),
+        (
+            "arguments of an argument",
+            "Ops f:2 g:1 a:0 Vars x y Automaton A States q r Final States q Transitions f(q(r),q) -> q",
+            "line 1 column 79: Expected",
+        ),
+        (
+            "arguments of a target",
+            "Ops f:2 g:1 a:0 Vars x y Automaton A States q r Final States q Transitions a -> q(r)",
+            "line 1 column 82: Expected",
+        ),
+        (
+            "a text for a name",
+            "Ops f:2 g:1 a:0 Vars x y TRS R a \"x\"",
+            "line 1 column 34: Expected",
+        ),
+        (
+            "a section of the head that comes late",
+            "Ops f:2 g:1 a:0 Vars x y TRS R a -> a Ops",
+            "line 1 column 39: Expected",
+        ),
+        (
+            "a state with another number",
+            "Automaton A States q:00",
+            "line 1 column 22: Expected",
+        ),
+        (
+            "an approximation before the first automaton",
+            "Approximation N States k Rules",
+            "line 1 column 1: Expected",
+        ),
+        (
+            "an approximation rule without entries",
+            "Ops f:2 g:1 a:0 Vars x y Automaton A States q r Final States q Transitions Approximation N States k Rules [g(x) -> y] -> []",
+            "line 1 column 123: Expected",
+        ),
+        (
+            "an arity of 17",
+            "Ops f:17",
+            "line 1 column 7: Limit arity 16",
+        ),
+        (
+            "a second system",
+            "Ops f:2 g:1 a:0 Vars x y TRS R a -> a TRS S",
+            "line 1 column 39: Limit systems 1",
+        ),
+        (
+            "a third automaton",
+            "Ops f:2 g:1 a:0 Vars x y Automaton A States q r Final States q Transitions Automaton B States p Final States Transitions Automaton C",
+            "line 1 column 122: Limit automata 2",
+        ),
+        (
+            "second equations",
+            "Ops f:2 g:1 a:0 Vars x y Equations E Rules x = y Equations F Rules",
+            "line 1 column 50: Limit equation-sections 1",
+        ),
+        (
+            "a second approximation",
+            "Ops f:2 g:1 a:0 Vars x y Automaton A States q r Final States q Transitions Approximation N States k Rules Approximation M",
+            "line 1 column 107: Limit approximations 1",
+        ),
+        (
+            "a name that is not declared",
+            "Ops f:2 g:1 a:0 Vars x y TRS R h(x) -> x",
+            "line 1 column 32: UnknownName",
+        ),
+        (
+            "a state in a rule",
+            "Ops f:2 g:1 a:0 Vars x y Automaton A States q r Final States q Transitions TRS R g(q) -> a",
+            "line 1 column 84: UnknownName",
+        ),
+        (
+            "a variable for the head of a transition",
+            "Ops f:2 g:1 a:0 Vars x y Automaton A States q r Final States q Transitions x -> q",
+            "line 1 column 76: UnknownName",
+        ),
+        (
+            "a symbol for a target",
+            "Ops f:2 g:1 a:0 Vars x y Automaton A States q r Final States q Transitions a -> a",
+            "line 1 column 81: UnknownName",
+        ),
+        (
+            "a state of the other automaton",
+            "Ops f:2 g:1 a:0 Vars x y Automaton A States q r Final States q Transitions Automaton B States p Final States r",
+            "line 1 column 110: UnknownName",
+        ),
+        (
+            "a description of no state",
+            "Ops f:2 g:1 a:0 Vars x y Automaton A States q Description z: \"z\"",
+            "line 1 column 59: UnknownName",
+        ),
+        (
+            "a variable for the head of an entry",
+            "Ops f:2 g:1 a:0 Vars x y Automaton A States q r Final States q Transitions Approximation N States k Rules [g(x) -> y] -> [x -> k]",
+            "line 1 column 123: UnknownName",
+        ),
+        (
+            "a nested entry",
+            "Ops f:2 g:1 a:0 Vars x y Automaton A States q r Final States q Transitions Approximation N States k Rules [g(x) -> y] -> [g(a) -> k]",
+            "line 1 column 125: UnknownName",
+        ),
+        (
+            "a symbol for the state of an approximation rule",
+            "Ops f:2 g:1 a:0 Vars x y Automaton A States q r Final States q Transitions Approximation N States k Rules [g(x) -> a]",
+            "line 1 column 116: UnknownName",
+        ),
+        (
+            "a symbol twice",
+            "Ops a:0 a:0",
+            "line 1 column 9: DoubleName",
+        ),
+        (
+            "a variable with the name of a symbol",
+            "Ops a:0\nVars a",
+            "line 2 column 6: DoubleName",
+        ),
+        (
+            "a variable twice",
+            "Vars x x",
+            "line 1 column 8: DoubleName",
+        ),
+        (
+            "a state with the name of a variable",
+            "Ops f:2 g:1 a:0 Vars x y Automaton A States x",
+            "line 1 column 45: DoubleName",
+        ),
+        (
+            "a state twice in the second automaton",
+            "Ops f:2 g:1 a:0 Vars x y Automaton A States q r Final States q Transitions Automaton B States q q",
+            "line 1 column 97: DoubleName",
+        ),
+        (
+            "a state of the approximation that is one of the first automaton",
+            "Ops f:2 g:1 a:0 Vars x y Automaton A States q r Final States q Transitions Approximation N States q Rules",
+            "line 1 column 99: DoubleName",
+        ),
+        (
+            "a left side that is a variable",
+            "Ops f:1 a:0\nVars x y\nTRS R\nx -> f(y)\n",
+            "line 4 column 1: VariableLeft",
+        ),
+        (
+            "a second rule whose left side is a variable",
+            "Ops f:2 g:1 a:0 Vars x y TRS R a -> a x -> a",
+            "line 1 column 39: VariableLeft",
+        ),
+        (
+            "a variable twice",
+            "Ops f:2 a:0\nVars x\nTRS R\nf(x,x) -> a",
+            "line 4 column 5: NotLeftLinear",
+        ),
+        (
+            "a variable twice, deeper",
+            "Ops f:2 g:1 a:0 Vars x y TRS R f(x,g(f(y,x))) -> a",
+            "line 1 column 42: NotLeftLinear",
+        ),
+        (
+            "a variable of the right side alone",
+            "Ops f:1 a:0\nVars x\nTRS R\na -> f(x)\n",
+            "line 4 column 8: FreeVariable",
+        ),
+        (
+            "a right side that is a free variable",
+            "Ops f:2 g:1 a:0 Vars x y TRS R g(x) -> y",
+            "line 1 column 40: FreeVariable",
+        ),
+    ];
+    for (shows, text, fault) in rows {
+        let told = format!(in rt.alloc(); "Bad specification {fault}\n")?;
+        let (status, sink) = complete(rt.alloc(), text.as_bytes())?;
+        assert_eq!(rt; status, Status::BadSpec, "{shows}");
+        assert_eq!(rt; sink.bytes(), told.as_bytes(), "{shows}");
+    }
+    Ok(())
+}
+
+/// The head of a text, and so many lines: a beginning, the number of the line from 0, and an end.
+fn numbered(
+    alloc: Global,
+    head: &str,
+    begin: &str,
+    end: &str,
+    count: usize,
+) -> Result<String, AllocError> {
+    let mut text = String::from_str(alloc, head)?;
+    for number in 0..count {
+        let line = format!(in alloc; "\n{begin}{number}{end}")?;
+        text.push_str(&line)?;
+    }
+    Ok(text)
+}
+
+/// The head of a text, and the same line so often.
+fn repeated(alloc: Global, head: &str, line: &str, count: usize) -> Result<String, AllocError> {
+    let mut text = String::from_str(alloc, head)?;
+    for _ in 0..count {
+        text.push_str("\n")?;
+        text.push_str(line)?;
+    }
+    Ok(text)
+}
+
+#[test]
+fn limits_are_told_at_the_first_token_past_them(rt: HostRuntime) -> Result<(), Fail> {
+    let alloc = rt.alloc();
+    let variables = "v0 v1 v2 v3 v4 v5 v6 v7 v8 v9 v10 v11 v12 v13 v14 v15 v16";
+    let entries =
+        "Ops a:0 Automaton A States q Final States Transitions Approximation N States Rules [a -> q] -> [";
+    let rows = [
+        (
+            numbered(alloc, "Ops", "s", ":0", 4097)?,
+            "line 4098 column 1: Limit symbols 4096",
+        ),
+        (
+            numbered(alloc, "Vars", "v", "", 1025)?,
+            "line 1026 column 1: Limit declared 1024",
+        ),
+        (
+            numbered(alloc, "Automaton A States", "q", "", 16385)?,
+            "line 16386 column 1: Limit states 16384",
+        ),
+        (
+            numbered(
+                alloc,
+                format!(in alloc; "Ops f:2 Vars {variables} TRS R")?.as_str(),
+                "f(v",
+                ",",
+                17,
+            )?,
+            "line 18 column 3: Limit variables 16",
+        ),
+        (
+            repeated(alloc, "Ops g:1 TRS R", "g(", 101)?,
+            "line 102 column 1: Limit nesting 100",
+        ),
+        (
+            repeated(alloc, "Ops a:0 TRS R", "a -> a", 4097)?,
+            "line 4098 column 1: Limit rules 4096",
+        ),
+        (
+            repeated(alloc, "Ops a:0 Equations E Rules", "a = a", 1025)?,
+            "line 1026 column 1: Limit equations 1024",
+        ),
+        (
+            repeated(alloc, entries, "a -> q", 1025)?,
+            "line 1026 column 1: Limit entries 1024",
+        ),
+    ];
+    for (text, fault) in rows.iter() {
+        let told = format!(in alloc; "Bad specification {fault}\n")?;
+        let (status, sink) = complete(alloc, text.as_bytes())?;
+        assert_eq!(rt; status, Status::BadSpec, "{fault}");
+        assert_eq!(rt; sink.bytes(), told.as_bytes(), "{fault}");
+    }
+    Ok(())
+}
+
+#[test]
+fn a_name_has_at_most_255_bytes(rt: HostRuntime) -> Result<(), Fail> {
+    let alloc = rt.alloc();
+    for (count, fault) in [
+        (255, "line 2 column 256: Expected"),
+        (256, "line 2 column 1: Limit name-bytes 255"),
+    ] {
+        let mut text = String::from_str(alloc, "Ops\n")?;
+        for _ in 0..count {
+            text.push_str("a")?;
+        }
+        let told = format!(in alloc; "Bad specification {fault}\n")?;
+        let (status, sink) = complete(alloc, text.as_bytes())?;
+        assert_eq!(rt; status, Status::BadSpec, "{count} bytes");
+        assert_eq!(rt; sink.bytes(), told.as_bytes(), "{count} bytes");
+    }
+    Ok(())
+}
+
+/// An automaton of one state, for the end of a text.
+const AUTOMATON: &str = " Automaton A States q Final States q Transitions a -> q";
+
+#[test]
+fn texts_at_the_limits_are_read(rt: HostRuntime) -> Result<(), Fail> {
+    let alloc = rt.alloc();
+    let variables = "v0 v1 v2 v3 v4 v5 v6 v7 v8 v9 v10 v11 v12 v13 v14 v15";
+    let sixteen = "h(v0,v1,v2,v3,v4,v5,v6,v7,v8,v9,v10,v11,v12,v13,v14,v15) -> a";
+    let mut deep = repeated(alloc, "Ops a:0 g:1 TRS R", "g(", 100)?;
+    deep.push_str("a")?;
+    for _ in 0..100 {
+        deep.push_str(")")?;
+    }
+    deep.push_str(" -> a")?;
+    let texts = [
+        repeated(alloc, "Ops a:0 TRS R", "a -> a", 4096)?,
+        repeated(alloc, "Ops a:0 Equations E Rules", "a = a", 1024)?,
+        format!(in alloc; "Ops a:0 h:16 Vars {variables} TRS R {sixteen}")?,
+        deep,
+    ];
+    for text in texts.iter() {
+        let whole = format!(in alloc; "{text}{AUTOMATON}")?;
+        let (status, _) = complete(alloc, whole.as_bytes())?;
+        assert_eq!(rt; status, Status::Unreachable);
+    }
+    Ok(())
+}

@@ -1,0 +1,12 @@
+use Rattle.timbuk_reader.proofs.FirstFaults.{faults_are_first}
+use Rattle.timbuk_reader.proofs.ReaderSpecLaws.{found_by_reading, none_by_fault}
+use Rattle.timbuk_reader.proofs.reader.read_spec.Goals as goal
+
+pub returns-clause-found : goal.returns-clause-found
+returns-clause-found c = found_by_reading c.args.bytes.now c.read_text.result c.read_text.ensures.read
+
+pub returns-clause-fault : goal.returns-clause-fault
+returns-clause-fault c told e = (faults_are_first c.args.bytes.now told).0 (c.read_text.ensures.stops told e)
+
+pub returns-clause-none : goal.returns-clause-none
+returns-clause-none c told spec e h = none_by_fault c.args.bytes.now told spec (c.read_text.ensures.stops told e) h

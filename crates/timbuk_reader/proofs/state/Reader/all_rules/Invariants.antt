@@ -1,0 +1,10 @@
+use Rattle.std.proofs.Common.{length, ◌≤◌}
+use Rattle.timbuk_grammar.specs.Grammar.{many, rule}
+use Rattle.timbuk_reader.specs.Reads.{Turns}
+use Rattle.timbuk_reader.proofs.state.Reader.all_rules.Given as goal
+
+abbrev pub invariant-loop-self : goal.invariant-loop-self
+invariant-loop-self l = record { turns : Turns (many rule) l.fn.self (many rule) l.self; no_longer : length l.self.tokens.now ≤ length l.fn.self.tokens.now }
+
+abbrev pub decreases-loop-self : goal.decreases-loop-self
+decreases-loop-self l = length l.self.tokens.now

@@ -1,0 +1,11 @@
+use Rattle.std.proofs.Common.{length}
+use Rattle.timbuk_grammar.specs.Grammar.{many, transition}
+use Rattle.timbuk_reader.specs.Reads.{Turns}
+use Rattle.timbuk_reader.specs.AutomatonReads.{IsInAutomaton, NoLonger}
+use Rattle.timbuk_reader.proofs.state.Reader.all_transitions.Given as goal
+
+abbrev pub invariant-loop-self : goal.invariant-loop-self
+invariant-loop-self l = record { turns : Turns (many transition) l.fn.self (many transition) l.self; inside : IsInAutomaton l.self; no_longer : NoLonger l.fn.self l.self }
+
+abbrev pub decreases-loop-self : goal.decreases-loop-self
+decreases-loop-self l = length l.self.tokens.now

@@ -1,0 +1,277 @@
+//! Reads patterns.
+ghost use Rattle.std.specs.Prelude.{◌≡◌, ◌<◌, ◌≤◌, ◌==◌, [], false, IfOk, IfErr, OnOk, MatchResult, length};
+ghost use Rattle.std.specs.List.{list_any};
+ghost use Rattle.timbuk_grammar.specs.declared.terminal.Terminal.TheVariants as terminal;
+ghost use Rattle.timbuk_reader.specs.Declarations.{has, with_variable, a_variable, a_state, a_symbol};
+ghost use Rattle.timbuk_reader.specs.Meanings.{meant_by};
+ghost use Rattle.timbuk_reader.specs.Reads.{Took};
+ghost use Rattle.timbuk_reader.specs.View.{Shorter, sees};
+ghost use Rattle.timbuk_reader.specs.Patterns.{IsPatternPlace, HasHead, Breaks, BuildsAt, AppliesAll, Fits, AllFit, IsNoVariable, LacksArguments, LacksArgument, LacksEnd, EndsName, SameBut};
+ghost use Rattle.timbuk_reader.specs.Patterns as rows;
+
+use crate::fault::{LimitName, SpecError, SpecKind};
+use crate::meaning::Meaning;
+use crate::state::Reader;
+use ranked_terms::{Seq, Shape};
+use std::alloc::AllocError;
+use timbuk_grammar::{Place, Terminal};
+
+/// The largest number of rules.
+const MAX_RULES: usize = 4096;
+
+/// The largest number of equations.
+const MAX_EQUATIONS: usize = 1024;
+
+/// How deep symbols with arguments may be nested.
+const MAX_NESTING: u32 = 100;
+
+/// The largest number of variables of a rule, of an equation or of an entry.
+pub(crate) const MAX_BOUND: usize = 16;
+
+impl<'s, 'a> Reader<'s, 'a> {
+    /// A pattern below so many open applications. A name is refused that stands for nothing in the place or passes a limit,
+    /// and a variable that may not stand there; behind each name a wrong number of arguments is.
+    #[cycle(pattern)]
+    pub(crate) fn pattern(&mut self, place: Place, depth: u32) -> Result<Shape, SpecError>
+        requires place { IsPatternPlace place }
+        requires depth { depth ≤ 100 }
+        ensures shorter { OnOk result (Shorter self.old self.new) }
+        ensures reads { BuildsAt place depth self.old result self.new }
+        ensures fits { IfOk result (λ shape. Fits place self.old shape self.new) }
+        ensures left { IfOk result (IsNoVariable place depth) }
+    {
+        match self.pattern_head(place, depth)? {
+            Meaning::Unknown => unreachable!(),
+            Meaning::Variable(variable) => self.pattern_variable(place, depth, variable),
+            Meaning::State(state) => self.pattern_state(place, depth, state),
+            Meaning::Symbol(sym, 0) => self.pattern_constant(place, depth, sym),
+            Meaning::Symbol(sym, arity) => {
+                self.advance();
+                let args = self.arguments(place, sym, arity, depth)?;
+                Ok(Shape::App(sym, args))
+            }
+        }
+    }
+
+    /// The arguments of a symbol that stands below so many open applications, as many as its arity says. Another number is
+    /// refused.
+    #[cycle(pattern)]
+    fn arguments(
+        &mut self,
+        place: Place,
+        sym: u32,
+        arity: u32,
+        depth: u32,
+    ) -> Result<Seq<Shape>, SpecError>
+        requires place { IsPatternPlace place }
+        requires depth { depth < 100 }
+        requires some { 0 < arity }
+        ensures shorter { OnOk result (Shorter self.old self.new) }
+        ensures reads { AppliesAll place sym arity depth self.old result self.new }
+        ensures count { IfOk result (λ args. length args ≡ arity) }
+        ensures fits { IfOk result (λ args. AllFit place self.old args self.new) }
+    {
+        self.first_argument()?;
+        let mut args = Seq::new(self.alloc);
+        args.push(self.pattern(place, depth + 1)?)?;
+        while args.len() < arity as usize {
+            self.next_argument()?;
+            args.push(self.pattern(place, depth + 1)?)?;
+        }
+        self.last_argument()?;
+        Ok(args)
+    }
+
+    /// What the name stands for that comes next in a pattern. It is refused where it may not stand there, and so is
+    /// anything that is no name; in place of a further argument the end of the arguments is a wrong number.
+    fn pattern_head(&self, place: Place, depth: u32) -> Result<Meaning, SpecError>
+        requires place { IsPatternPlace place }
+        ensures ok { IfOk result (λ meaning. HasHead place depth self.now (meant_by meaning)) }
+        ensures err { IfErr result (Breaks place depth self.now) }
+    {
+        if depth > 0 && self.sees(Terminal::CloseParen) {
+            return Err(self.refusal(SpecKind::WrongArity));
+        }
+        let name = self.word(Terminal::Named(place))?;
+        let meaning = self.meaning(place, name);
+        match self.pattern_fault(place, depth, meaning) {
+            Some(kind) => Err(self.refusal(kind)),
+            None => Ok(meaning),
+        }
+    }
+
+    /// A variable, whose name comes next. A `(` behind it is refused.
+    fn pattern_variable(
+        &mut self,
+        place: Place,
+        depth: u32,
+        variable: u32,
+    ) -> Result<Shape, SpecError>
+        requires place { IsPatternPlace place }
+        requires head { HasHead place depth self.old (a_variable variable) }
+        ensures shorter { OnOk result (Shorter self.old self.new) }
+        ensures reads { BuildsAt place depth self.old result self.new }
+        ensures fits { IfOk result (λ shape. Fits place self.old shape self.new) }
+        ensures left { IfOk result (IsNoVariable place depth) }
+    {
+        self.bind(variable)?;
+        self.leaf(SpecKind::Expected)?;
+        Ok(Shape::Var(variable))
+    }
+
+    /// A state, whose name comes next. A `(` behind it is refused.
+    fn pattern_state(&mut self, place: Place, depth: u32, state: u32) -> Result<Shape, SpecError>
+        requires place { IsPatternPlace place }
+        requires head { HasHead place depth self.old (a_state state) }
+        ensures shorter { OnOk result (Shorter self.old self.new) }
+        ensures reads { BuildsAt place depth self.old result self.new }
+        ensures fits { IfOk result (λ shape. Fits place self.old shape self.new) }
+        ensures left { IfOk result (IsNoVariable place depth) }
+    {
+        self.leaf(SpecKind::Expected)?;
+        Ok(Shape::State(state))
+    }
+
+    /// A symbol of arity 0, whose name comes next. Arguments behind it are refused.
+    fn pattern_constant(&mut self, place: Place, depth: u32, sym: u32) -> Result<Shape, SpecError>
+        requires place { IsPatternPlace place }
+        requires head { HasHead place depth self.old (a_symbol sym 0) }
+        ensures shorter { OnOk result (Shorter self.old self.new) }
+        ensures reads { BuildsAt place depth self.old result self.new }
+        ensures fits { IfOk result (λ shape. Fits place self.old shape self.new) }
+        ensures left { IfOk result (IsNoVariable place depth) }
+    {
+        self.leaf(SpecKind::WrongArity)?;
+        Ok(Shape::App(sym, Seq::new(self.alloc)))
+    }
+
+    /// Takes the mark in front of the arguments of a symbol that has some. Anything else is refused as a wrong number.
+    pub(crate) fn first_argument(&mut self) -> Result<(), SpecError>
+        ensures { MatchResult result (λ _. Took terminal.OpenParen self.old self.new) (LacksArguments self.old) }
+    {
+        if !self.sees(Terminal::OpenParen) {
+            return Err(self.refusal(SpecKind::WrongArity));
+        }
+        self.take(Terminal::OpenParen)
+    }
+
+    /// Takes the mark in front of a further argument. The end of the arguments is refused as a wrong number.
+    pub(crate) fn next_argument(&mut self) -> Result<(), SpecError>
+        ensures { MatchResult result (λ _. Took terminal.Comma self.old self.new) (LacksArgument self.old) }
+    {
+        if self.sees(Terminal::CloseParen) {
+            return Err(self.refusal(SpecKind::WrongArity));
+        }
+        self.take(Terminal::Comma)
+    }
+
+    /// Takes the mark behind the last argument. A further argument is refused as a wrong number.
+    pub(crate) fn last_argument(&mut self) -> Result<(), SpecError>
+        ensures { MatchResult result (λ _. Took terminal.CloseParen self.old self.new) (LacksEnd self.old) }
+    {
+        if self.sees(Terminal::Comma) {
+            return Err(self.refusal(SpecKind::WrongArity));
+        }
+        self.take(Terminal::CloseParen)
+    }
+
+    /// Takes a name that has no arguments. A `(` behind it is refused in this way.
+    pub(crate) fn leaf(&mut self, kind: SpecKind) -> Result<(), SpecError>
+        requires { 0 < length self.old.tokens.now }
+        ensures { EndsName kind self.old result self.new }
+    {
+        self.advance();
+        if self.sees(Terminal::OpenParen) {
+            return Err(self.refusal(kind));
+        }
+        Ok(())
+    }
+
+    /// Whether the variable stands in the declaration that is being read.
+    pub(crate) fn is_bound(&self, variable: u32) -> bool
+        ensures { result ≡ has self.now.bound variable }
+    {
+        contains(self.bound.as_slice(), variable)
+    }
+
+    /// Forgets the variables of an earlier declaration.
+    pub(crate) fn unbind(&mut self)
+        ensures bound { self.new.bound ≡ [] }
+        ensures same { SameBut self.old self.new }
+        ensures tokens { self.new.tokens.now ≡ self.old.tokens.now }
+    {
+        self.bound = Seq::new(self.alloc);
+    }
+
+    /// Notes that the variable stands in the declaration that is being read. The only error is want of memory.
+    pub(crate) fn bind(&mut self, variable: u32) -> Result<(), AllocError>
+        requires { has self.old.bound variable ≡ false → length self.old.bound < 16 }
+        ensures bound { OnOk result (self.new.bound ≡ with_variable self.old.bound variable) }
+        ensures same { OnOk result (SameBut self.old self.new) }
+        ensures tokens { self.new.tokens.now ≡ self.old.tokens.now }
+    {
+        if !self.is_bound(variable) {
+            self.bound.push(variable)?;
+        }
+        Ok(())
+    }
+
+    /// The first fault of a name in a pattern, by what it stands for: a limit that it passes, no meaning, a left side that is a
+    /// variable, a variable that stands a second time in a left side, or one that stands in a right side alone.
+    fn pattern_fault(&self, place: Place, depth: u32, meaning: Meaning) -> Option<SpecKind>
+        ensures { result ≡ rows.pattern_fault place (meant_by meaning) depth self.now }
+    {
+        if let Some(limit) = self.pattern_limit(place, depth, meaning) {
+            return Some(SpecKind::Limit(limit));
+        }
+        match (place, meaning) {
+            (_, Meaning::Unknown) => Some(SpecKind::UnknownName),
+            (Place::LeftSide, Meaning::Variable(_)) if depth == 0 => Some(SpecKind::VariableLeft),
+            (Place::LeftSide, Meaning::Variable(variable)) if self.is_bound(variable) => {
+                Some(SpecKind::NotLeftLinear)
+            }
+            (Place::RightSide, Meaning::Variable(variable)) if !self.is_bound(variable) => {
+                Some(SpecKind::FreeVariable)
+            }
+            _ => None,
+        }
+    }
+
+    /// The first limit that a name in a pattern passes: the nesting, the variables, the rules or the equations.
+    fn pattern_limit(&self, place: Place, depth: u32, meaning: Meaning) -> Option<LimitName>
+        ensures { result ≡ rows.pattern_limit (meant_by meaning) depth self.now.bound (rows.side_limit place depth (length self.now.rules) (length self.now.equations)) }
+    {
+        match meaning {
+            Meaning::Symbol(_, arity) if arity > 0 && depth >= MAX_NESTING => {
+                Some(LimitName::Nesting)
+            }
+            Meaning::Variable(variable)
+                if !self.is_bound(variable) && self.bound.len() >= MAX_BOUND => {
+                Some(LimitName::Variables)
+            }
+            _ => self.side_limit(place, depth),
+        }
+    }
+
+    /// The limit that the first name of a further rule or equation passes.
+    fn side_limit(&self, place: Place, depth: u32) -> Option<LimitName>
+        ensures { result ≡ rows.side_limit place depth (length self.now.rules) (length self.now.equations) }
+    {
+        match place {
+            Place::LeftSide if depth == 0 && self.rules.len() >= MAX_RULES => {
+                Some(LimitName::Rules)
+            }
+            Place::EquationLeft if depth == 0 && self.equations.len() >= MAX_EQUATIONS => {
+                Some(LimitName::Equations)
+            }
+            _ => None,
+        }
+    }
+}
+
+/// Whether the variable is one of these.
+pub(crate) fn contains(variables: &[u32], variable: u32) -> bool
+    ensures { result ≡ list_any (λ w. variable == w) variables.now }
+{
+    variables.iter().any(|bound| variable == *bound)
+}

@@ -1,0 +1,142 @@
+//! The reader of input texts.
+ghost use Rattle.std.specs.Prelude.{◌≡◌, ◌<◌, ◌≤◌, ◌-◌, ◌^◌, ◌==◌, not, All, Err, IfOk, IsTrue, filter, length};
+ghost use Rattle.std.specs.List.{range_with_len};
+ghost use Rattle.ta_core.specs.TreeAutomaton.{bare};
+ghost use Rattle.ta_core.specs.declared.spec.Spec.{Spec as Spelled};
+ghost use Rattle.timbuk_lex.specs.Laws.{HasWord};
+ghost use Rattle.timbuk_reader.specs.declared.fault.SpecFault.{SpecFault as Told};
+ghost use Rattle.timbuk_reader.specs.Declarations.{nothing};
+ghost use Rattle.timbuk_reader.specs.Reading.{read};
+ghost use Rattle.timbuk_reader.specs.Kept.{states_are_below, trans_are_below, eps_are_below};
+ghost use Rattle.timbuk_reader.specs.Spelled.{IsAutomatonOf, IsSpecOf};
+ghost use Rattle.timbuk_reader.specs.SpecText.{SpecText};
+ghost use Rattle.timbuk_reader.specs.Faults.{SpecFaultAt};
+ghost use Rattle.timbuk_reader.specs.Laws.{IsRead};
+ghost use Rattle.timbuk_reader.specs.View.{started, state_of, end_of};
+
+use crate::fault::SpecError;
+use crate::names::NameTable;
+use crate::state::{Reader, StartedAutomaton};
+use ranked_terms::{Seq, Signature};
+use std::alloc::{AllocError, Global};
+use ta_core::{Automaton, Spec};
+use timbuk_lex::{Lexed, Place, end_of, lex_of};
+
+/// Reads a text of fewer than 4,294,967,295 bytes: the specification that it spells, where it spells one. Else `Fault` has
+/// the first place at which the text is wrong, and what is wrong there. `Memory` comes at want of memory.
+pub fn read_spec(alloc: Global, bytes: &[u8]) -> Result<Spec, SpecError>
+    requires { length bytes.now < 2 ^ 32 - 1 }
+    ensures found { IfOk result (SpecText bytes.now) }
+    ensures fault { (told : Told) → result ≡ Err (SpecError.Fault told) → SpecFaultAt bytes.now told }
+    ensures none { (told : Told) (spec : Spelled) → result ≡ Err (SpecError.Fault told) → SpecText bytes.now spec → ⊥ }
+{
+    read_text(alloc, bytes)
+}
+
+/// Reads a text token by token, up to its end or to the first token at which a row of the table of faults fits. The other error
+/// is want of memory.
+fn read_text(alloc: Global, bytes: &[u8]) -> Result<Spec, SpecError>
+    requires { length bytes.now < 2 ^ 32 - 1 }
+    ensures read { IfOk result (IsRead bytes.now) }
+    ensures stops { (told : Told) → result ≡ Err (SpecError.Fault told) → read bytes.now ≡ Err told }
+{
+    let lexed = lex_of(alloc, bytes)?;
+    let mut reader = Reader::new(alloc, &lexed, end_of(bytes));
+    reader.text()?;
+    Ok(reader.into_spec()?)
+}
+
+impl<'s, 'a> Reader<'s, 'a> {
+    /// The reader that has the tokens of a text before it, which ends at this place. It takes no memory yet, and grows by
+    /// `alloc`.
+    fn new(alloc: Global, lexed: &'s Lexed<'a>, end: Place) -> Reader<'s, 'a>
+        requires { All HasWord lexed.now.tokens }
+        ensures tokens { result.tokens.now ≡ lexed.now.tokens }
+        ensures state { state_of result ≡ nothing }
+        ensures end { end_of result ≡ record { ending = lexed.now.ending; line = end.line; column = end.column } }
+    {
+        Reader {
+            alloc,
+            tokens: lexed.tokens.as_slice(),
+            ending: lexed.ending,
+            line: end.line,
+            column: end.column,
+            signature: Signature::new(alloc),
+            variables: NameTable::new(alloc),
+            systems: 0,
+            automata: 0,
+            equation_sections: 0,
+            approximations: 0,
+            initial: StartedAutomaton::new(alloc),
+            extra: 0,
+            second: StartedAutomaton::new(alloc),
+            rules: Seq::new(alloc),
+            equations: Seq::new(alloc),
+            entries: Seq::new(alloc),
+            bound: Seq::new(alloc),
+        }
+    }
+
+    /// The specification of all that was read. The only error is want of memory.
+    fn into_spec(self) -> Result<Spec, AllocError>
+        ensures { IfOk result (IsSpecOf (state_of self.entry)) }
+    {
+        let alloc = self.alloc;
+        let own_states = self.initial.states.len() - self.extra;
+        let forbidden_states = self.second.states.len();
+        Ok(Spec {
+            vars: self.variables.to_names(alloc)?,
+            signature: self.signature,
+            rules: self.rules,
+            equations: self.equations,
+            entries: self.entries,
+            extra: self.extra,
+            approximated: self.approximations > 0,
+            initial: self.initial.into_automaton(alloc, own_states)?,
+            forbidden: self.second.into_automaton(alloc, forbidden_states)?,
+        })
+    }
+}
+
+impl StartedAutomaton {
+    /// The automaton of the first states, of this number, with the final states and the transitions that are declared. What
+    /// stands twice counts once, and an epsilon transition from a state to itself does not. The only error is want of memory.
+    fn into_automaton(self, alloc: Global, count: u32) -> Result<Automaton, AllocError>
+        requires few { count ≤ 16384 }
+        requires finals { IsTrue (states_are_below count self.finals) }
+        requires trans { IsTrue (trans_are_below count self.trans) }
+        requires eps { IsTrue (eps_are_below count self.eps) }
+        ensures { IfOk result (IsAutomatonOf count (started self)) }
+    {
+        let moves = moves_of(alloc, self.eps.as_slice())?;
+        let mut automaton = automaton_of_states(alloc, count)?;
+        automaton.set_all_final(self.finals)?;
+        automaton.add_all_trans(self.trans)?;
+        automaton.add_all_eps(moves)?;
+        Ok(automaton)
+    }
+}
+
+/// The automaton of so many states alone, numbered from 0. The only error is want of memory.
+fn automaton_of_states(alloc: Global, count: u32) -> Result<Automaton, AllocError>
+    requires { count ≤ 16384 }
+    ensures { IfOk result (λ automaton. automaton ≡ bare count (range_with_len 0 count)) }
+{
+    let mut states = Vec::new(alloc);
+    for state in 0..count {
+        states.push(state)?;
+    }
+    Automaton::with_states(alloc, count, &states)
+}
+
+/// The epsilon transitions that lead to another state. The only error is want of memory.
+fn moves_of(alloc: Global, eps: &[(u32, u32)]) -> Result<Seq<(u32, u32)>, AllocError>
+    ensures { IfOk result (λ moves. moves ≡ filter (λ e. not (e.0 == e.1)) eps.now) }
+{
+    let moves: Vec<(u32, u32)> = eps
+        .iter()
+        .copied()
+        .filter(|(from, to)| from != to)
+        .collect(alloc)?;
+    Ok(Seq::from_vec(moves))
+}

@@ -1,0 +1,164 @@
+//! Reads the declarations of symbols and variables.
+ghost use Rattle.std.specs.Prelude.{◌≡◌, min, ◌++◌, IfOk, IfErr, OnOk};
+ghost use Rattle.ranked_terms.specs.Names.{names_of};
+ghost use Rattle.timbuk_grammar.specs.Grammar as grammar;
+ghost use Rattle.timbuk_grammar.specs.declared.terminal.Place.TheVariants as place;
+ghost use Rattle.timbuk_grammar.specs.declared.terminal.Terminal.TheVariants as terminal;
+ghost use Rattle.timbuk_reader.specs.Declarations.{value_of};
+ghost use Rattle.timbuk_reader.specs.Rows.{is_in};
+ghost use Rattle.timbuk_reader.specs.View.{Shorter, closed, naming};
+ghost use Rattle.timbuk_reader.specs.Reads.{Leads, Stops, Reads, IsFresh, IsNewSymbol};
+
+use crate::fault::{LimitName, SpecError, SpecKind};
+use crate::state::Reader;
+use ranked_terms::{MAX_ARITY, MAX_SYMBOLS, SigError};
+use timbuk_grammar::{Place, Terminal};
+
+/// The largest number of variables that a text declares.
+const MAX_VARIABLES: u32 = 1024;
+
+impl<'s, 'a> Reader<'s, 'a> {
+    /// The symbols, if the text declares any: `Ops`, and names with their arities.
+    #[tactic(auto, using(crate::proofs::Steps::then_reads, crate::proofs::Steps::then_stops, crate::proofs::Steps::then_head, crate::proofs::Steps::maybe_reads, crate::proofs::Steps::maybe_stops, crate::proofs::Steps::maybe_none))]
+    pub(crate) fn ops(&mut self) -> Result<(), SpecError>
+        requires { IsFresh self.old }
+        ensures reads { Reads (grammar.maybe grammar.ops) closed self.old result closed self.new }
+        ensures fresh { OnOk result (IsFresh self.new) }
+    {
+        if !self.sees(Terminal::Ops) {
+            return Ok(());
+        }
+        self.mark(Terminal::Ops)?;
+        self.all_ops()
+    }
+
+    /// Names with their arities, as many as there are.
+    #[tactic(auto, using(crate::proofs::Steps::turns_start, crate::proofs::Steps::turns_again, crate::proofs::Steps::turns_stop, crate::proofs::Steps::turns_err, crate::proofs::Steps::then_head))]
+    fn all_ops(&mut self) -> Result<(), SpecError>
+        requires { IsFresh self.old }
+        ensures reads { Reads (grammar.many grammar.op) closed self.old result closed self.new }
+        ensures fresh { OnOk result (IsFresh self.new) }
+    {
+        while self.sees(Terminal::Named(Place::Symbol)) {
+            self.op()?;
+        }
+        Ok(())
+    }
+
+    /// A name with its arity.
+    #[tactic(auto, using(crate::proofs::Steps::then_leads, crate::proofs::Steps::then_stops, crate::proofs::Steps::later_stops, crate::proofs::Steps::then_reads, crate::proofs::StepsTokens::mark_leads, crate::proofs::StepsTokens::mark_stops, crate::proofs::StepsTokens::naming_calm))]
+    fn op(&mut self) -> Result<(), SpecError>
+        requires { IsFresh self.old }
+        ensures shorter { OnOk result (Shorter self.old self.new) }
+        ensures reads { Reads grammar.op closed self.old result closed self.new }
+        ensures fresh { OnOk result (IsFresh self.new) }
+    {
+        let name = self.symbol_name()?;
+        self.mark(Terminal::Colon)?;
+        self.arity(name)
+    }
+
+    /// The name of a symbol. It is refused where there are 4,096 symbols, and where one of them has the name.
+    #[tactic(auto, using(crate::proofs::StepsTokens::no_word_stops, crate::proofs::StepsTokens::closed_calm))]
+    fn symbol_name(&mut self) -> Result<&'a str, SpecError>
+        requires { IsFresh self.old }
+        ensures shorter { OnOk result (Shorter self.old self.new) }
+        ensures ok { IfOk result (λ name. Leads (grammar.name place.Symbol) closed self.old (naming name.now) self.new) }
+        ensures err { IfErr result (Stops (grammar.name place.Symbol) closed self.old) }
+        ensures new { IfOk result (λ name. IsNewSymbol self.new.signature name.now) }
+        ensures fresh { OnOk result (IsFresh self.new) }
+    {
+        let name = self.word(Terminal::Named(Place::Symbol))?;
+        if self.signature.len() >= MAX_SYMBOLS {
+            return Err(self.refusal(SpecKind::Limit(LimitName::Symbols)));
+        }
+        if self.signature.find(name).is_some() {
+            return Err(self.refusal(SpecKind::DoubleName));
+        }
+        self.advance();
+        Ok(name)
+    }
+
+    /// The arity of the symbol of this name, which is added. It is refused above 16.
+    #[tactic(auto, using(crate::proofs::StepsTokens::no_word_stops, crate::proofs::StepsTokens::naming_calm))]
+    fn arity(&mut self, name: &str) -> Result<(), SpecError>
+        requires fresh { IsFresh self.old }
+        requires new { IsNewSymbol self.old.signature name.now }
+        ensures shorter { OnOk result (Shorter self.old self.new) }
+        ensures reads { Reads (grammar.one terminal.Number) (naming name.now) self.old result closed self.new }
+        ensures fresh { OnOk result (IsFresh self.new) }
+    {
+        let arity = number_of(self.word(Terminal::Number)?.as_bytes());
+        if arity > MAX_ARITY {
+            return Err(self.refusal(SpecKind::Limit(LimitName::Arity)));
+        }
+        match self.signature.add(name, arity) {
+            Ok(_) => {
+                self.advance();
+                Ok(())
+            }
+            Err(SigError::Memory) => Err(SpecError::Memory),
+            Err(SigError::Double | SigError::Full) => unreachable!(),
+        }
+    }
+
+    /// Whether a symbol or a variable has the name.
+    pub(crate) fn is_taken(&self, name: &str) -> bool
+        ensures { result ≡ is_in (names_of self.now.signature ++ self.now.variables) name.now }
+    {
+        self.signature.find(name).is_some() || self.variables.find(name).is_some()
+    }
+
+    /// The variables, if the text declares any: `Vars`, and names.
+    #[tactic(auto, using(crate::proofs::Steps::then_reads, crate::proofs::Steps::then_stops, crate::proofs::Steps::then_head, crate::proofs::Steps::maybe_reads, crate::proofs::Steps::maybe_stops, crate::proofs::Steps::maybe_none))]
+    pub(crate) fn vars(&mut self) -> Result<(), SpecError>
+        ensures { Reads (grammar.maybe grammar.vars) closed self.old result closed self.new }
+    {
+        if !self.sees(Terminal::Vars) {
+            return Ok(());
+        }
+        self.mark(Terminal::Vars)?;
+        self.all_vars()
+    }
+
+    /// Names of variables, as many as there are.
+    #[tactic(auto, using(crate::proofs::Steps::turns_start, crate::proofs::Steps::turns_again, crate::proofs::Steps::turns_stop, crate::proofs::Steps::turns_err, crate::proofs::Steps::one_head))]
+    fn all_vars(&mut self) -> Result<(), SpecError>
+        ensures { Reads (grammar.many (grammar.name place.Variable)) closed self.old result closed self.new }
+    {
+        while self.sees(Terminal::Named(Place::Variable)) {
+            self.variable_name()?;
+        }
+        Ok(())
+    }
+
+    /// The name of a variable, which is added. It is refused where there are 1,024 variables, and where a symbol or a variable
+    /// has the name.
+    #[tactic(auto, using(crate::proofs::StepsTokens::no_word_stops, crate::proofs::StepsTokens::closed_calm))]
+    fn variable_name(&mut self) -> Result<(), SpecError>
+        ensures shorter { OnOk result (Shorter self.old self.new) }
+        ensures reads { Reads (grammar.name place.Variable) closed self.old result closed self.new }
+    {
+        let name = self.word(Terminal::Named(Place::Variable))?;
+        if self.variables.len() >= MAX_VARIABLES {
+            return Err(self.refusal(SpecKind::Limit(LimitName::Declared)));
+        }
+        if self.is_taken(name) {
+            return Err(self.refusal(SpecKind::DoubleName));
+        }
+        self.variables.add(name)?;
+        self.advance();
+        Ok(())
+    }
+}
+
+/// The number that the digits spell, or 17 if that is less.
+fn number_of(digits: &[u8]) -> u32
+    ensures { result ≡ min (value_of digits.now) 17 }
+{
+    let mut number = 0;
+    for digit in digits {
+        number = (number * 10 + u32::from(digit.saturating_sub(b'0'))).min(MAX_ARITY + 1);
+    }
+    number
+}
