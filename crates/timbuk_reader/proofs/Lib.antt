@@ -4,11 +4,13 @@ pub mod ReaderNames
 pub mod Steps
 pub mod StepsTokens
 pub mod ReaderTokens
+pub mod TokenSlices
 pub mod StepsNames
 pub mod ReaderFresh
 pub mod StepsLast
 pub mod ReaderMeanings
 pub mod StepsPatterns
+pub mod StepsArguments
 pub mod ReaderPatterns
 pub mod ReaderArguments
 pub mod ReaderFits
@@ -66,7 +68,6 @@ pub mod TieSectionsFile
 pub mod TieSectionsTexts
 pub mod ReaderSpecLaws
 pub mod ReaderWhole
-pub mod StepsApproximation
 pub mod StepsApproximationNames
 pub mod StepsApproximationRules
 pub mod StepsApproximationSection

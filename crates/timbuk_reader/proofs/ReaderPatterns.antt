@@ -6,9 +6,7 @@ use Rattle.timbuk_lex.specs.declared.lexeme.Lexeme.{Lexeme}
 use Rattle.timbuk_grammar.specs.declared.terminal.Place.{Place}
 use Rattle.timbuk_grammar.specs.declared.terminal.Place.TheVariants as place
 use Rattle.timbuk_grammar.specs.declared.terminal.Terminal.TheVariants as terminal
-use Rattle.timbuk_grammar.specs.Matching.{matches}
 use Rattle.timbuk_grammar.specs.Grammar.{Part, one, many, ◌then◌, pattern, pattern_arguments}
-use Rattle.timbuk_grammar.proofs.Differ as differ
 use Rattle.timbuk_reader.specs.declared.fault.SpecKind.{SpecKind}
 use Rattle.timbuk_reader.specs.declared.fault.SpecKind.TheVariants as kind
 use Rattle.timbuk_reader.specs.declared.fault.LimitName.TheVariants as limit
@@ -16,15 +14,15 @@ use Rattle.timbuk_reader.specs.declared.fault.SpecError.{SpecError}
 use Rattle.timbuk_reader.specs.declared.fault.SpecError.TheVariants as error
 use Rattle.timbuk_reader.specs.declared.state.Reader.{Reader}
 use Rattle.timbuk_reader.specs.Declarations.{Text, Declared, Application, Last, any, leaf, constant, function, Meaning, a_variable, a_state, a_symbol, meaning, with_variable, placed, binds, named, uses, begins_transition}
-use Rattle.timbuk_reader.specs.Rows.{wrong_arity, wrong_count}
 use Rattle.timbuk_reader.specs.Reading.{End, outcome}
 use Rattle.timbuk_reader.specs.View.{Open, declared, inside, state_of, end_of, settled, as_error, sees, refusal_at, refusal}
 use Rattle.timbuk_reader.specs.Reads.{Stands, HasNoWord, missed, long}
 use Rattle.timbuk_reader.specs.Patterns.{IsPatternPlace, application, within, IsSpot, Builds, Breaks, Applies, Misapplies, pattern_fault, SameBut}
 use Rattle.timbuk_reader.proofs.Steps.{pattern_front, then_head, maybe_skip}
-use Rattle.timbuk_reader.proofs.StepsTokens.{use_row, row_other, long_row, step_leaf, step_on, step_fault, step_wrong}
+use Rattle.timbuk_reader.proofs.StepsTokens.{use_row, row_other, long_row, step_on, step_fault}
 use Rattle.timbuk_reader.proofs.StepsLast.{after, leaf_whole, constant_whole, IsWhole, read_after}
 use Rattle.timbuk_reader.proofs.StepsPatterns.{fault_row, meaning_is, name_quiet, adds_named, pattern_missed, pattern_closed}
+use Rattle.timbuk_reader.proofs.StepsArguments.{leaf_applied, constant_applied}
 
 -- the arguments of a pattern begin with a `(`
 abbrev pub argument_list : Place → Part
@@ -104,20 +102,6 @@ begins_is place.EquationRight f d h = refl
 begins_is place.EntryWhole f d h = refl
 begins_is _ f d h = absurd h
 
-paren_count : (applications : List Application) (x : Lexeme) → matches terminal.OpenParen x ≡ true → wrong_count applications x ≡ false
-paren_count [] x e = refl
-paren_count (a ∷ outer) x e = rw (differ.apart terminal.OpenParen terminal.CloseParen x refl e, differ.apart terminal.OpenParen terminal.Comma x refl e) refl
-
-leaf_paren : (ps : List Part) (end : End) (d : Declared) (xs : List Lexeme) → sees terminal.OpenParen xs ≡ true → outcome end ps (after leaf d) xs ≡ Err (refusal_at kind.Expected end xs)
-unfolding wrong_arity
-leaf_paren ps end d [] e = cc
-leaf_paren ps end d (x ∷ xs) e = step_leaf ps end (after leaf d) x xs (paren_count d.applications x e) e
-
-constant_paren : (ps : List Part) (end : End) (d : Declared) (xs : List Lexeme) → sees terminal.OpenParen xs ≡ true → outcome end ps (after constant d) xs ≡ Err (refusal_at kind.WrongArity end xs)
-unfolding wrong_arity
-constant_paren ps end d [] e = cc
-constant_paren ps end d (x ∷ xs) e = step_wrong ps end (after constant d) x xs (rw e refl)
-
 -- no `(` follows
 whole_read : (p : Place) (l : Last) → IsWhole l → (ps : List Part) (end : End) (d : Declared) (xs : List Lexeme) → sees terminal.OpenParen xs ≡ false → settled (outcome end (pattern_arguments p ∷ ps) (after l d) xs) ≡ settled (outcome end ps (after any d) xs)
 whole_read p l w ps end d xs e =
@@ -196,17 +180,17 @@ module _ (p : Place) (pattern_place : IsPatternPlace p) (r u : Reader) (depth : 
   pub variable_breaks : (v : ℕ) (e : SpecError) → meaning (state_of r) p text ≡ a_variable v → pattern_fault p (a_variable v) depth r ≡ None → sees terminal.OpenParen u.tokens.now ≡ true → e ≡ error.Fault (refusal kind.Expected u) → Breaks p depth r e
   variable_breaks v e is none seen told = record {
     by = λ ne ps applications shapes spot.
-        ap (λ z. as_error (settled z)) (read (a_variable v) is none ps applications shapes spot ∙ leaf_paren (pattern_arguments p ∷ ps) (end_of u) (placed p (shape.Var v) (binds p v (declared (within applications shapes) r))) u.tokens.now seen) ∙ ap Err (sym told);
+        ap (λ z. as_error (settled z)) (read (a_variable v) is none ps applications shapes spot ∙ leaf_applied (pattern_arguments p ∷ ps) (end_of u) (after leaf (placed p (shape.Var v) (binds p v (declared (within applications shapes) r)))) u.tokens.now refl seen) ∙ ap Err (sym told);
   }
 
   pub state_breaks : (q : ℕ) (e : SpecError) → meaning (state_of r) p text ≡ a_state q → pattern_fault p (a_state q) depth r ≡ None → sees terminal.OpenParen u.tokens.now ≡ true → e ≡ error.Fault (refusal kind.Expected u) → Breaks p depth r e
   state_breaks q e is none seen told = record {
     by = λ ne ps applications shapes spot.
-        ap (λ z. as_error (settled z)) (read (a_state q) is none ps applications shapes spot ∙ leaf_paren (pattern_arguments p ∷ ps) (end_of u) (uses p q (placed p (shape.State q) (declared (within applications shapes) r))) u.tokens.now seen) ∙ ap Err (sym told);
+        ap (λ z. as_error (settled z)) (read (a_state q) is none ps applications shapes spot ∙ leaf_applied (pattern_arguments p ∷ ps) (end_of u) (after leaf (uses p q (placed p (shape.State q) (declared (within applications shapes) r)))) u.tokens.now refl seen) ∙ ap Err (sym told);
   }
 
   pub constant_breaks : (f : ℕ) (e : SpecError) → meaning (state_of r) p text ≡ a_symbol f zero → pattern_fault p (a_symbol f zero) depth r ≡ None → sees terminal.OpenParen u.tokens.now ≡ true → e ≡ error.Fault (refusal kind.WrongArity u) → Breaks p depth r e
   constant_breaks f e is none seen told = record {
     by = λ ne ps applications shapes spot.
-        ap (λ z. as_error (settled z)) (read (a_symbol f zero) is none ps applications shapes spot ∙ constant_paren (pattern_arguments p ∷ ps) (end_of u) (placed p (shape.App f []) (begins_transition p f (declared (within applications shapes) r))) u.tokens.now seen) ∙ ap Err (sym told);
+        ap (λ z. as_error (settled z)) (read (a_symbol f zero) is none ps applications shapes spot ∙ constant_applied (pattern_arguments p ∷ ps) (end_of u) (after constant (placed p (shape.App f []) (begins_transition p f (declared (within applications shapes) r)))) u.tokens.now refl seen) ∙ ap Err (sym told);
   }

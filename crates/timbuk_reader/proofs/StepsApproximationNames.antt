@@ -1,44 +1,42 @@
 -- The names in an approximation rule.
-use Rattle.std.proofs.Common.{◌≡◌, ◌≢◌, ℕ, zero, suc, ◌+◌, ◌<◌, ◌≤◌, length, arith, Bool, true, false, not, ◌&&◌, ◌||◌, ◌==◌, cond, List, [], ◌∷◌, ◌++◌, Option, Some, None, Ok, Err, Result, refl, ap, sym, ◌∙◌, subst}
+use Rattle.std.proofs.Common.{◌≡◌, ℕ, zero, suc, ◌+◌, ◌<◌, ◌≤◌, length, arith, Bool, true, false, not, ◌&&◌, ◌||◌, List, [], ◌∷◌, Option, Some, None, Err, refl, ap, sym, ◌∙◌, subst}
 use Rattle.std.specs.Prelude.{option_map, nat_lt, nat_le, position, unwrap_or}
 use Rattle.std.specs.Str.{bytes_eq}
 use Rattle.std.proofs.lemmas.Bool.Decides.{nat_tests}
 use Rattle.std.proofs.lemmas.List.Quantifiers.{position-Some}
-use Rattle.ranked_terms.specs.Names.{Symbol, number_of, arity_of}
+use Rattle.ranked_terms.specs.Names.{number_of, arity_of}
 use Rattle.ranked_terms.specs.declared.term.Shape.TheVariants as shape
 use Rattle.timbuk_lex.specs.declared.lexeme.Lexeme.{Lexeme}
 use Rattle.timbuk_grammar.specs.declared.terminal.Place.{Place}
 use Rattle.timbuk_grammar.specs.declared.terminal.Place.TheVariants as place
 use Rattle.timbuk_grammar.specs.declared.terminal.Terminal.TheVariants as terminal
-use Rattle.timbuk_grammar.specs.Matching.{matches}
-use Rattle.timbuk_grammar.specs.Grammar.{Part, one, name}
+use Rattle.timbuk_grammar.specs.Grammar.{Part, name}
 use Rattle.timbuk_reader.specs.declared.fault.SpecKind.{SpecKind}
 use Rattle.timbuk_reader.specs.declared.fault.SpecKind.TheVariants as kind
 use Rattle.timbuk_reader.specs.declared.fault.LimitName.TheVariants as limit
 use Rattle.timbuk_reader.specs.declared.fault.SpecError.{SpecError}
 use Rattle.timbuk_reader.specs.declared.fault.SpecError.TheVariants as error
 use Rattle.timbuk_reader.specs.declared.state.Reader.{Reader}
-use Rattle.timbuk_reader.specs.Declarations.{Text, Declared, Application, any, leaf, Meaning, unknown, a_variable, a_state, a_symbol, or_else, if_allowed, as_symbol, as_variable, as_state, meaning, states_at, has, named, placed, binds, uses, adds}
-use Rattle.timbuk_reader.specs.Rows.{or, when, row, wrong_arity, wrong_count, passed, misnamed, too_deep, one_too_many, is_unknown}
+use Rattle.timbuk_reader.specs.Declarations.{Text, Declared, any, leaf, Meaning, unknown, a_variable, a_state, a_symbol, or_else, as_variable, as_state, meaning, has, named, placed, binds, uses, adds}
+use Rattle.timbuk_reader.specs.Rows.{or, when, passed, misnamed, too_deep, one_too_many, is_unknown}
 use Rattle.timbuk_reader.specs.Reading.{End, outcome}
-use Rattle.timbuk_reader.specs.View.{Open, bound_in, declared, state_of, end_of, settled, from, as_error, sees, refusal_at, refusal}
-use Rattle.timbuk_reader.specs.Reads.{Stops, IsCalm, Missed, Stands, IsLong, HasNoWord, missed, long}
+use Rattle.timbuk_reader.specs.View.{Open, bound_in, declared, state_of, end_of, settled, as_error, sees, refusal_at, refusal}
+use Rattle.timbuk_reader.specs.Reads.{Stops, IsCalm, Stands}
 use Rattle.timbuk_reader.specs.declared.meaning.Meaning.{Meaning as Told}
 use Rattle.timbuk_reader.specs.declared.meaning.Meaning.TheVariants as told
 use Rattle.timbuk_reader.specs.Meanings.{meant_by}
 use Rattle.timbuk_reader.specs.Patterns.{Advanced, LeadsToParen}
-use Rattle.timbuk_reader.specs.AutomatonReads.{IsReady}
 use Rattle.timbuk_reader.specs.ApproximationReads.{IsBinding, IsLeafPlace, IsLeaf, HasLeaf, leaf_meaning, has_room, formed, headed_by, headed, ReadsName, StopsName, ReadsLeaf, StopsLeaf}
 use Rattle.timbuk_reader.specs.declared.approximation.Form.{Form}
 use Rattle.timbuk_reader.specs.declared.approximation.StartedEntry.{StartedEntry}
 use Rattle.timbuk_reader.specs.declared.approximation.Leaf.{Leaf}
 use Rattle.timbuk_reader.specs.declared.approximation.Leaf.TheVariants as leaves
 use Rattle.timbuk_reader.proofs.Steps.{one_front}
-use Rattle.timbuk_reader.proofs.StepsTokens.{use_row, row_other, step_on, step_fault, long_row, declared_same}
-use Rattle.timbuk_reader.proofs.StepsLast.{after, leaf_whole, read_after}
+use Rattle.timbuk_reader.proofs.StepsTokens.{use_row, row_other, step_on, step_fault, declared_same}
+use Rattle.timbuk_reader.proofs.StepsLast.{leaf_whole, read_after}
 use Rattle.timbuk_reader.proofs.StepsPatterns.{name_quiet}
 use Rattle.timbuk_reader.proofs.ReaderMeanings.{symbol_arity}
-use Rattle.timbuk_reader.proofs.StepsApproximation.{missed_here, leaf_applied}
+use Rattle.timbuk_reader.proofs.StepsArguments.{leaf_applied}
 
 -- the places of an approximation rule in which no symbol stands
 abbrev pub IsLeafOrTarget : Place → Type 0
@@ -126,24 +124,6 @@ module _ (p : Place) (place_is : IsLeafOrTarget p) (text : Text) (r : Reader) (s
       ∙ ap (λ z. outcome (end_of r) ps (adds (terminal.Named p) z d) stands.rest) stands.text_is
       ∙ ap (λ z. outcome (end_of r) ps z stands.rest) (adds_used p text d place_is ∙ ap (λ n. named p n d) (same_meaning p text o r place_is ∙ is))
       ∙ (λ i. outcome (sym k.end i) ps (named p m (sym (declared_same o r u k.state k.bound) i)) (rest i))
-
--- ---- no name
-
-module _ (p : Place) (r : Reader) (e : SpecError) (o : Open) (ready : IsReady o r) where
-  -- no name stands there, or a long one
-  pub no_name_stops : HasNoWord (terminal.Named p) r e → Stops (name p) o r e
-  no_name_stops (missed m) = record {
-    by = λ ne ps.
-        ap (λ z. as_error (settled z)) (missed_here (name p ∷ ps) (terminal.Named p) ps (end_of r) (declared o r) r.tokens.now (one_front (terminal.Named p) ps) m.unseen ready.last ready.count) ∙ ap Err (sym m.told);
-  }
-  no_name_stops (long l told) = record {
-    by = λ ne ps.
-        let d = declared o r in
-        let fits = row_other (terminal.Named p) d l.token tt l.matched (name_quiet p l.token l.matched d ready.last) ∙ long_row (terminal.Named p) l.token.text d tt l.long in
-        ap (λ z. as_error (settled z)) (ap (outcome (end_of r) (name p ∷ ps) d) l.tokens
-        ∙ step_fault (name p ∷ ps) (terminal.Named p) ps (end_of r) d l.token l.rest (kind.Limit limit.NameBytes) (one_front (terminal.Named p) ps) l.matched fits
-        ∙ ap (λ xs. Err (refusal_at (kind.Limit limit.NameBytes) (end_of r) xs)) (sym l.tokens)) ∙ ap Err (sym told);
-  }
 
 -- ---- variables and states
 

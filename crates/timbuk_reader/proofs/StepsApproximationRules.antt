@@ -1,15 +1,10 @@
 -- The parts of an approximation rule.
-use Rattle.std.proofs.Common.{◌≡◌, ◌≢◌, ℕ, zero, suc, ◌+◌, ◌<◌, ◌≤◌, length, arith, Bool, true, false, ◌&&◌, cond, List, [], ◌∷◌, ◌++◌, Option, Some, None, Ok, Err, Result, MatchResult, refl, ap, sym, ◌∙◌, subst}
-use Rattle.std.specs.Prelude.{nat_lt, nat_le}
-use Rattle.std.proofs.lemmas.Bool.Decides.{nat_tests}
+use Rattle.std.proofs.Common.{◌≡◌, ℕ, zero, suc, ◌<◌, ◌≤◌, length, arith, Bool, true, false, cond, List, [], ◌∷◌, ◌++◌, Ok, Err, Result, MatchResult, refl, ap, sym, ◌∙◌}
 use Rattle.ranked_terms.specs.declared.term.Shape.{Shape}
 use Rattle.ranked_terms.specs.declared.term.Shape.TheVariants as shape
-use Rattle.timbuk_lex.specs.declared.lexeme.Lexeme.{Lexeme}
-use Rattle.timbuk_grammar.specs.declared.terminal.Place.{Place}
 use Rattle.timbuk_grammar.specs.declared.terminal.Place.TheVariants as place
 use Rattle.timbuk_grammar.specs.declared.terminal.Terminal.{Terminal}
 use Rattle.timbuk_grammar.specs.declared.terminal.Terminal.TheVariants as terminal
-use Rattle.timbuk_grammar.specs.Matching.{matches}
 use Rattle.timbuk_grammar.specs.Grammar.{Part, one, ◌then◌, many, name, pattern, arguments, entry}
 use Rattle.timbuk_reader.specs.declared.fault.SpecKind.TheVariants as kind
 use Rattle.timbuk_reader.specs.declared.fault.SpecError.{SpecError}
@@ -20,25 +15,18 @@ use Rattle.timbuk_reader.specs.declared.approximation.StartedEntry.{StartedEntry
 use Rattle.timbuk_reader.specs.declared.approximation.Leaf.{Leaf}
 use Rattle.timbuk_reader.specs.declared.approximation.Leaf.TheVariants as leaves
 use Rattle.timbuk_reader.specs.Declarations.{Declared, Application, any, constant, function, a_state, has, with_variable, named, placed, placed_in}
-use Rattle.timbuk_reader.specs.Reading.{End, outcome}
-use Rattle.timbuk_reader.specs.View.{Open, closed, bound_in, declared, inside, state_of, end_of, settled, from, as_error, sees, refusal_at, refusal}
+use Rattle.timbuk_reader.specs.Reading.{outcome}
+use Rattle.timbuk_reader.specs.View.{closed, declared, inside, state_of, end_of, settled, from, as_error, sees, refusal}
 use Rattle.timbuk_reader.specs.Reads.{Leads, Stops, Reads, IsCalm, Took, Missed}
 use Rattle.timbuk_reader.specs.Patterns.{within, application, IsSpot, Builds, Breaks, SameBut, LacksArguments, LacksArgument, too_few, no_comma, LacksEnd, too_many, no_end}
-use Rattle.timbuk_reader.specs.AutomatonReads.{miscounts, IsReady, SameTokens}
-use Rattle.timbuk_reader.specs.ApproximationReads.{formed, headed_by, headed, arguing, argued, IsBinding, leaf_meaning, leaf_shape, with_leaf, with_own, entry_of, ReadsName, StopsName, ReadsLeaf, StopsLeaf, OnlyTokens, OnlyEntries, SameHead, AddsArgument, HasArguments}
+use Rattle.timbuk_reader.specs.AutomatonReads.{IsReady, SameTokens}
+use Rattle.timbuk_reader.specs.ApproximationReads.{formed, headed_by, headed, arguing, argued, leaf_meaning, leaf_shape, with_leaf, with_own, entry_of, ReadsName, StopsName, ReadsLeaf, StopsLeaf, OnlyTokens, OnlyEntries, SameHead, AddsArgument, HasArguments}
 use Rattle.timbuk_reader.proofs.Steps.{Head, alike, both_alike, then_head, maybe_skip, many_take, many_skip, then_leads, then_stops, later_stops}
-use Rattle.timbuk_reader.proofs.StepsTokens.{declared_same, mark_leads, mark_stops}
+use Rattle.timbuk_reader.proofs.StepsTokens.{mark_leads, mark_stops}
 use Rattle.timbuk_reader.proofs.StepsLast.{after, constant_whole, read_after}
-use Rattle.timbuk_reader.proofs.StepsApproximation.{and_false, more_of, constant_applied, function_bare, arguments_open, argument_next, argument_lacks, argument_exceeds, argument_unmarked, arguments_close}
+use Rattle.timbuk_reader.proofs.StepsArguments.{calm_ready, took_run, ready_count, more_of, constant_applied, function_bare, arguments_open, argument_next, argument_lacks, argument_exceeds, argument_unmarked, arguments_close}
 
 -- ---- the form in front of the entries
-
-none_miscounts : (xs : List Lexeme) → miscounts [] xs ≡ false
-none_miscounts [] = refl
-none_miscounts (x ∷ xs) = refl
-
-pub ready_by : (o : Open) (r : Reader) → o.last ≡ any → o.applications ≡ [] → IsReady o r
-ready_by o r l e = record { last = l; count = ap (λ a. miscounts a r.tokens.now) e ∙ none_miscounts r.tokens.now }
 
 -- the form of a right side, where no variable is bound
 module _ (r : Reader) (unbound : r.bound ≡ []) where
@@ -67,7 +55,7 @@ pub at_leads : (r m u : Reader) (form : Form) (l : Leaf) → form.at ≡ leaf_sh
     → Leads (name place.EntryAt) (within [] (form.whole ∷ [])) r (formed form) u
 at_leads r m u form l at h same b t = record {
   by = λ ps.
-      h.by (within [] (form.whole ∷ [])) (ready_by (within [] (form.whole ∷ [])) r refl refl) (record { binds = refl; own_is = refl }) ps
+      h.by (within [] (form.whole ∷ [])) (calm_ready (within [] (form.whole ∷ [])) r refl refl) (record { binds = refl; own_is = refl }) ps
       ∙ (λ i. settled (outcome (sym same.end i) ps ((at_declared form.whole m u l same.state b ∙ ap (λ s. declared (within [] (form.whole ∷ s ∷ [])) u) (sym at)) i) (sym t i)));
 }
 
@@ -76,10 +64,6 @@ at_leads r m u form l at h same b t = record {
 -- the symbol that lacks arguments
 abbrev lacking : StartedEntry → Application
 lacking e = application place.EntryHead e.sym e.arity e.args
-
-room_counts : (a : Application) (xs : List Lexeme) → length a.args < a.arity → sees terminal.CloseParen xs ≡ false → miscounts (a ∷ []) xs ≡ false
-room_counts a [] less e = refl
-room_counts a (x ∷ xs) less e = let few : nat_le a.arity (length a.args) ≡ false = grind (arith, nat_tests) in rw (e, few) (and_false (matches terminal.Comma x))
 
 abbrev argument : Part
 argument = name place.EntryArgument
@@ -93,7 +77,7 @@ argument_closed e r x less seen told = record {
 
 module _ (e : StartedEntry) (r : Reader) (less : length e.args < e.arity) (unclosed : sees terminal.CloseParen r.tokens.now ≡ false) where
   ready : IsReady (arguing e) r
-  ready = record { last = refl; count = room_counts (lacking e) r.tokens.now less unclosed }
+  ready = record { last = refl; count = ready_count (lacking e) [] r.tokens.now less unclosed }
 
   pub argument_stops : (x : SpecError) → StopsLeaf place.EntryArgument e.own r x → Stops argument (arguing e) r x
   argument_stops x h = h.by (arguing e) ready (record { binds = refl; own_is = refl })
@@ -123,9 +107,6 @@ module _ (e : StartedEntry) (r : Reader) (less : length e.args < e.arity) (unclo
   }
 
 -- ---- all arguments
-
-pub took_on : (t : Terminal) (r m : Reader) (o : Open) (ps : List Part) → (k : Took t r m) → outcome (end_of r) ps (declared o r) r.tokens.now ≡ outcome (end_of m) ps (declared o m) (k.token ∷ m.tokens.now)
-took_on t r m o ps k = λ i. outcome (sym k.end i) ps (sym (declared_same o r m k.state k.bound) i) (k.tokens i)
 
 -- an entry of which no argument was read
 pub record IsBare (e : StartedEntry) : Type 0 where
@@ -177,7 +158,7 @@ module _ (e : StartedEntry) (bare : IsBare e) where
     opened : (m : Reader) (ps : List Part) → Took terminal.OpenParen r m → from (headed e) (arguments argument ∷ ps) r ≡ from (arguing e) (argument ∷ more_of argument ∷ ps) m
     opened m ps k =
         let b = bare_by e.arity e m refl bare some in
-        ap settled (took_on terminal.OpenParen r m (headed e) (arguments argument ∷ ps) k
+        ap settled (took_run terminal.OpenParen r m (headed e) (arguments argument ∷ ps) k
         ∙ arguments_open argument ps (end_of m) (declared (headed e) m) k.token m.tokens.now b.0 k.matched
         ∙ ap (λ z. outcome (end_of m) (argument ∷ more_of argument ∷ ps) z m.tokens.now) b.1)
 
@@ -202,7 +183,7 @@ module _ (r m : Reader) (e f : StartedEntry) (h : Argues r e f m) where
 
     between : (v : Reader) (ps : List Part) → Took terminal.Comma m v → from (headed e) (arguments argument ∷ ps) r ≡ from (arguing f) (argument ∷ many (one terminal.Comma then argument) ∷ one terminal.CloseParen ∷ ps) v
     between v ps k =
-        h.by ps ∙ ap settled (took_on terminal.Comma m v (arguing f) (more_of argument ∷ ps) k
+        h.by ps ∙ ap settled (took_run terminal.Comma m v (arguing f) (more_of argument ∷ ps) k
         ∙ argument_next argument ps (end_of v) (declared (arguing f) v) (lacking f) [] refl refl k.token v.tokens.now less k.matched)
 
     pub next_stops : (v : Reader) (x : SpecError) → Took terminal.Comma m v → Stops argument (arguing f) v x → Stops (arguments argument) (headed e) r x
@@ -233,7 +214,7 @@ module _ (r m : Reader) (e f : StartedEntry) (h : Argues r e f m) where
     pub all_lead : (u : Reader) → Took terminal.CloseParen m u → Leads (arguments argument) (headed e) r (argued f) u
     all_lead u k = record {
       by = λ ps.
-          h.by ps ∙ ap settled (took_on terminal.CloseParen m u (arguing f) (more_of argument ∷ ps) k
+          h.by ps ∙ ap settled (took_run terminal.CloseParen m u (arguing f) (more_of argument ∷ ps) k
           ∙ arguments_close argument ps (end_of u) (declared (arguing f) u) (lacking f) [] refl refl k.token u.tokens.now all k.matched);
     }
 
@@ -279,12 +260,12 @@ pub target_leads : (e : StartedEntry) (form : Form) (q : ℕ) (r u v : Reader) �
     → Leads (name place.EntryTarget) (argued e) r (formed form) v
 target_leads e form q r u v same h added only tokens = record {
   by = λ ps.
-      h.by (argued e) (ready_by (argued e) r refl refl) ps
+      h.by (argued e) (calm_ready (argued e) r refl refl) ps
       ∙ (λ i. settled (outcome (sym tokens.end i) ps ((target_declared e q u v added only ∙ ap (λ f. declared (formed f) v) same) i) (sym tokens.tokens i)));
 }
 
 pub target_fails : (e : StartedEntry) (r : Reader) (x : SpecError) → StopsName place.EntryTarget r x → Stops (name place.EntryTarget) (argued e) r x
-target_fails e r x h = h.by (argued e) (ready_by (argued e) r refl refl)
+target_fails e r x h = h.by (argued e) (calm_ready (argued e) r refl refl)
 
 abbrev behind_arguments : Part
 behind_arguments = one terminal.Arrow then name place.EntryTarget

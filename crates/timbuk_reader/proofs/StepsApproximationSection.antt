@@ -1,5 +1,5 @@
 -- An approximation rule, and the section of approximation rules.
-use Rattle.std.proofs.Common.{◌≡◌, ◌≢◌, ◌⊎◌, inl, inr, ℕ, zero, suc, ◌+◌, ◌<◌, ◌≤◌, length, arith, Bool, true, false, ◌&&◌, ◌==◌, cond, List, [], ◌∷◌, Option, Some, None, Ok, Err, Result, refl, ap, sym, ◌∙◌, subst}
+use Rattle.std.proofs.Common.{◌≡◌, ◌≢◌, ◌+◌, ◌<◌, length, arith, Bool, true, false, ◌&&◌, ◌==◌, cond, List, [], ◌∷◌, Some, None, Ok, Err, Result, refl, ap, sym, ◌∙◌, subst}
 use Rattle.std.specs.Prelude.{nat_le}
 use Rattle.std.proofs.lemmas.Bool.Decides.{nat_tests}
 use Rattle.ranked_terms.specs.declared.term.Shape.{Shape}
@@ -8,7 +8,7 @@ use Rattle.timbuk_grammar.specs.declared.terminal.Place.TheVariants as place
 use Rattle.timbuk_grammar.specs.declared.terminal.Terminal.{Terminal}
 use Rattle.timbuk_grammar.specs.declared.terminal.Terminal.TheVariants as terminal
 use Rattle.timbuk_grammar.specs.Matching.{matches}
-use Rattle.timbuk_grammar.specs.Grammar.{Part, one, ◌then◌, many, some, name, pattern, entry, approximation_rule, approximation, state}
+use Rattle.timbuk_grammar.specs.Grammar.{Part, one, ◌then◌, many, some, name, pattern, entry, approximation_rule, state}
 use Rattle.timbuk_reader.specs.declared.fault.SpecKind.{SpecKind}
 use Rattle.timbuk_reader.specs.declared.fault.SpecKind.TheVariants as kind
 use Rattle.timbuk_reader.specs.declared.fault.LimitName.TheVariants as limit
@@ -16,18 +16,19 @@ use Rattle.timbuk_reader.specs.declared.fault.SpecError.{SpecError}
 use Rattle.timbuk_reader.specs.declared.fault.SpecError.TheVariants as error
 use Rattle.timbuk_reader.specs.declared.state.Reader.{Reader}
 use Rattle.timbuk_reader.specs.declared.approximation.Form.{Form}
-use Rattle.timbuk_reader.specs.Declarations.{Text, Declared, any, ends, adds}
+use Rattle.timbuk_reader.specs.Declarations.{Text, Declared, any, adds}
 use Rattle.timbuk_reader.specs.Rows.{row, expected, passed, misnamed}
 use Rattle.timbuk_reader.specs.Reading.{outcome}
 use Rattle.timbuk_reader.specs.View.{Open, closed, declared, state_of, end_of, settled, from, as_error, sees, refusal, refusal_at}
 use Rattle.timbuk_reader.specs.Reads.{Leads, Stops, Reads, Took, Takes, Missed}
 use Rattle.timbuk_reader.specs.Patterns.{within, Builds, Breaks, SameBut}
 use Rattle.timbuk_reader.specs.ApproximationReads.{formed, form_entries, IsForm, IsPart}
-use Rattle.timbuk_reader.proofs.Steps.{one_front, then_leads, then_stops, later_stops, then_reads}
-use Rattle.timbuk_reader.proofs.StepsTokens.{use_row, Quiet, not_closed, row_expected, row_other, step_on, step_fault, calm_arity, calm_quiet, closed_calm, mark_leads, mark_stops}
-use Rattle.timbuk_reader.proofs.StepsApproximation.{and_false}
+use Rattle.timbuk_reader.proofs.Steps.{one_front, then_stops, later_stops, then_reads}
+use Rattle.timbuk_reader.proofs.StepsTokens.{use_row, not_closed, row_expected, row_other, step_on, step_fault, calm_arity, calm_quiet, closed_calm, mark_leads, mark_stops}
+use Rattle.timbuk_reader.proofs.StepsArguments.{took_run}
+use Rattle.std.proofs.Math.Bool.{and-false}
 use Rattle.timbuk_reader.proofs.StepsApproximationNames.{formed_calm}
-use Rattle.timbuk_reader.proofs.StepsApproximationRules.{took_on, whole_leads, whole_stops, whole_calm}
+use Rattle.timbuk_reader.proofs.StepsApproximationRules.{whole_leads, whole_stops, whole_calm}
 use Rattle.timbuk_reader.proofs.ReaderApproximation.{part_kept, form_kept}
 
 -- ---- the end of the entries
@@ -44,7 +45,7 @@ close_leads : (form : Form) (m u : Reader) → Took terminal.CloseEntries m u �
 close_leads form m u k = record {
   by = λ ps.
       let d = declared (formed form) u in
-      ap settled (took_on terminal.CloseEntries m u (formed form) (one terminal.CloseEntries ∷ ps) k
+      ap settled (took_run terminal.CloseEntries m u (formed form) (one terminal.CloseEntries ∷ ps) k
       ∙ step_on (one terminal.CloseEntries ∷ ps) terminal.CloseEntries ps (end_of u) d k.token u.tokens.now (one_front terminal.CloseEntries ps) k.matched
       (row_other terminal.CloseEntries d k.token tt k.matched (calm_quiet d k.token refl refl) ∙ close_row k.token.text d)
       ∙ ap (λ z. outcome (end_of u) ps z u.tokens.now) (close_adds form u k.token.text));
@@ -182,7 +183,7 @@ unfolding row expected
 early_row d x a l e z = rw (not_closed terminal.Approximation x e, calm_arity d x a l, e, z, l) refl
 
 late_row : (d : Declared) (x : Lexeme) → d.applications ≡ [] → d.last ≡ any → matches terminal.Approximation x ≡ true → d.automata ≢ 0 → row (Some terminal.Approximation) d x ≡ use_row terminal.Approximation x.text d
-late_row d x a l e later = row_expected terminal.Approximation d x e (calm_quiet d x a l) (let none : (d.automata == 0) ≡ false = grind (arith, nat_tests) in ap (λ b. matches terminal.Approximation x && b) none ∙ and_false (matches terminal.Approximation x))
+late_row d x a l e later = row_expected terminal.Approximation d x e (calm_quiet d x a l) (let none : (d.automata == 0) ≡ false = grind (arith, nat_tests) in ap (λ b. matches terminal.Approximation x && b) none ∙ and-false (matches terminal.Approximation x))
 
 word_fault : (r : Reader) (x : Lexeme) (rest : List Lexeme) (e : SpecError) (k : SpecKind) → r.tokens.now ≡ x ∷ rest → matches terminal.Approximation x ≡ true → row (Some terminal.Approximation) (declared closed r) x ≡ Some k → e ≡ error.Fault (refusal k r) → Stops (one terminal.Approximation) closed r e
 word_fault r x rest e k tokens m fits told = record {

@@ -14,31 +14,30 @@ use Rattle.ranked_terms.specs.Terms.{is_arity, is_symbol}
 use Rattle.timbuk_lex.specs.declared.lexeme.Lexeme.{Lexeme}
 use Rattle.timbuk_grammar.specs.declared.terminal.Place.{Place}
 use Rattle.timbuk_grammar.specs.declared.terminal.Place.TheVariants as place
-use Rattle.timbuk_grammar.specs.declared.terminal.Terminal.{Terminal}
 use Rattle.timbuk_grammar.specs.declared.terminal.Terminal.TheVariants as terminal
 use Rattle.timbuk_grammar.specs.Matching.{matches}
 use Rattle.timbuk_grammar.specs.Grammar.{Part, one, ◌then◌, many, name}
-use Rattle.timbuk_grammar.proofs.Differ as differ
 use Rattle.timbuk_reader.specs.declared.fault.SpecKind.TheVariants as kind
 use Rattle.timbuk_reader.specs.declared.fault.LimitName.{LimitName}
 use Rattle.timbuk_reader.specs.declared.fault.LimitName.TheVariants as limit
 use Rattle.timbuk_reader.specs.declared.fault.SpecError.{SpecError}
 use Rattle.timbuk_reader.specs.declared.fault.SpecError.TheVariants as error
 use Rattle.timbuk_reader.specs.declared.state.Reader.{Reader}
-use Rattle.timbuk_reader.specs.Declarations.{Text, Application, Declared, Started, Head, no_head, state_head, symbol_head, any, leaf, constant, unknown, a_variable, a_state, a_symbol, or_else, as_symbol, as_state, meaning, current, with_current, uses, placed, named, adds}
-use Rattle.timbuk_reader.specs.Rows.{or, when, wrong_arity, wrong_count, over, passed, misnamed, is_in, is_double}
+use Rattle.timbuk_reader.specs.Declarations.{Text, Declared, Started, Head, no_head, state_head, symbol_head, any, leaf, constant, unknown, a_variable, a_state, a_symbol, or_else, as_symbol, as_state, meaning, current, with_current, uses, placed, named, adds}
+use Rattle.timbuk_reader.specs.Rows.{or, when, wrong_count, over, passed, misnamed, is_in, is_double}
 use Rattle.timbuk_reader.specs.Reading.{End, outcome}
 use Rattle.timbuk_reader.specs.View.{Open, closed, declared, state_of, end_of, settled, from, as_error, sees, refusal_at, refusal}
-use Rattle.timbuk_reader.specs.Reads.{Leads, Stops, IsCalm, Stands, HasNoWord, missed, long}
+use Rattle.timbuk_reader.specs.Reads.{Leads, Stops, IsCalm, Stands, HasNoWord}
 use Rattle.timbuk_reader.specs.Patterns.{Advanced}
 use Rattle.timbuk_reader.specs.declared.meaning.Meaning.{Meaning as Told}
 use Rattle.timbuk_reader.specs.declared.meaning.Meaning.TheVariants as told
 use Rattle.timbuk_reader.specs.Meanings.{meant_by}
 use Rattle.timbuk_reader.specs.AutomatonReads.{states_of, with_trans, with_epsilon, SameTokens, MayDeclare, table_of, UsesState, miscounts, IsReady, ReadState, StopsState, head_arguments, begun, headed}
-use Rattle.timbuk_reader.proofs.Steps.{Front, choice_unseen, one_front, then_head, maybe_none}
-use Rattle.timbuk_reader.proofs.StepsTokens.{use_row, Quiet, row_other, long_row, step_on, step_fault, step_wrong, step_unexpected, step_end, step_leaf, declared_same}
+use Rattle.timbuk_reader.proofs.Steps.{one_front, then_head, maybe_none}
+use Rattle.timbuk_reader.proofs.StepsTokens.{use_row, Quiet, row_other, step_on, step_fault, declared_same}
 use Rattle.timbuk_reader.proofs.StepsNames.{Declares, reached, below, is_in-append}
 use Rattle.timbuk_reader.proofs.StepsLast.{after, leaf_whole, constant_whole, read_after}
+use Rattle.timbuk_reader.proofs.StepsArguments.{quiet_by, calm_ready, no_name_stops, leaf_applied, constant_applied}
 
 -- ---- what a name means
 
@@ -127,53 +126,17 @@ state_adds _ text d q u m = absurd u
 
 -- ---- one token
 
--- a `(` tells of no other number of arguments where applications are open
-pub paren_counts : (applications : List Application) (x : Lexeme) → matches terminal.OpenParen x ≡ true → wrong_count applications x ≡ false
-paren_counts [] x e = refl
-paren_counts (a ∷ outer) x e = rw (differ.apart terminal.OpenParen terminal.CloseParen x refl e, differ.apart terminal.OpenParen terminal.Comma x refl e) refl
-
-ready_arity : (d : Declared) (x : Lexeme) → d.last ≡ any → wrong_count d.applications x ≡ false → wrong_arity d x ≡ false
-unfolding wrong_arity
-ready_arity d x e f = rw (e, f) refl
-
-ready_quiet : (d : Declared) (x : Lexeme) → d.last ≡ any → wrong_count d.applications x ≡ false → Quiet d x
-ready_quiet d x e f = record { arity = ready_arity d x e f; leaf = rw e refl }
-
 pub state_on : (p : Place) (ps : List Part) (end : End) (d : Declared) (x : Lexeme) (rest : List Lexeme) (q : ℕ) → MeansState p → matches (terminal.Named p) x ≡ true → Quiet d x
     → length x.text ≤ 255 → meaning d p x.text ≡ a_state q → outcome end (name p ∷ ps) d (x ∷ rest) ≡ outcome end ps (after leaf (uses p q (placed p (shape.State q) d))) rest
 state_on p ps end d x rest q u h quiet s m =
     step_on (name p ∷ ps) (terminal.Named p) ps end d x rest (one_front (terminal.Named p) ps) h (row_other (terminal.Named p) d x tt h quiet ∙ state_row p x.text d q u s m)
     ∙ ap (λ z. outcome end ps z rest) (state_adds p x.text d q u m)
 
-paren_stops : (ps : List Part) (end : End) (d : Declared) (xs : List Lexeme) → sees terminal.OpenParen xs ≡ true → outcome end ps (after leaf d) xs ≡ Err (refusal_at kind.Expected end xs)
-unfolding wrong_arity
-paren_stops ps end d [] e = cc
-paren_stops ps end d (x ∷ rest) e = step_leaf ps end (after leaf d) x rest (paren_counts d.applications x e) e
-
--- the next token is missing
-pub missed_at : (ps : List Part) (t : Terminal) (qs : List Part) (end : End) (d : Declared) (xs : List Lexeme) → Front ps t qs → sees t xs ≡ false → d.last ≡ any → miscounts d.applications xs ≡ false
-    → outcome end ps d xs ≡ Err (refusal_at kind.Expected end xs)
-missed_at ps t qs end d [] h e l n = step_end ps end d h.end
-missed_at ps t qs end d (x ∷ xs) h e l n = step_unexpected ps end d x xs (choice_unseen ps t qs x h e) (ready_arity d x l n)
-
 -- ---- a name where a state may stand
 
 module _ (p : Place) (o : Open) (r : Reader) (u : MeansState p) (ready : IsReady o r) where
   quiet_at : (x : Lexeme) (rest : List Lexeme) → r.tokens.now ≡ x ∷ rest → Quiet (declared o r) x
-  quiet_at x rest e = ready_quiet (declared o r) x ready.last (subst (λ xs. miscounts o.applications xs ≡ false) e ready.count)
-
-  -- no word stands there
-  pub no_name_stops : (e : SpecError) → HasNoWord (terminal.Named p) r e → Stops (name p) o r e
-  no_name_stops e (missed m) = record {
-    by = λ ne ps. ap (λ z. as_error (settled z)) (missed_at (name p ∷ ps) (terminal.Named p) ps (end_of r) (declared o r) r.tokens.now (one_front (terminal.Named p) ps) m.unseen ready.last ready.count) ∙ ap Err (sym m.told);
-  }
-  no_name_stops e (long l told) = record {
-    by = λ ne ps.
-        let d = declared o r in
-        ap (λ z. as_error (settled z)) (ap (outcome (end_of r) (name p ∷ ps) d) l.tokens
-        ∙ step_fault (name p ∷ ps) (terminal.Named p) ps (end_of r) d l.token l.rest (kind.Limit limit.NameBytes) (one_front (terminal.Named p) ps) l.matched (row_other (terminal.Named p) d l.token tt l.matched (quiet_at l.token l.rest l.tokens) ∙ long_row (terminal.Named p) l.token.text d tt l.long)
-        ∙ ap (λ xs. Err (refusal_at (kind.Limit limit.NameBytes) (end_of r) xs)) (sym l.tokens)) ∙ ap Err (sym told);
-  }
+  quiet_at x rest e = quiet_by (declared o r) x ready.last (subst (λ xs. miscounts o.applications xs ≡ false) e ready.count)
 
   -- an unknown name
   pub unknown_stops : (text : Text) (e : SpecError) → Stands (terminal.Named p) r text → meaning (state_of r) p text ≡ unknown → e ≡ error.Fault (refusal kind.UnknownName r) → Stops (name p) o r e
@@ -206,20 +169,13 @@ module _ (p : Place) (o : Open) (r : Reader) (u : MeansState p) (ready : IsReady
     -- a `(` follows
     pub applied_stops : (e : SpecError) → sees terminal.OpenParen m.tokens.now ≡ true → e ≡ error.Fault (refusal kind.Expected m) → Stops (name p) o r e
     applied_stops e seen told = record {
-      by = λ ne ps. ap (λ z. as_error (settled z)) (behind_name ps ∙ paren_stops ps (end_of m) (uses p q (placed p (shape.State q) (declared o m))) m.tokens.now seen) ∙ ap Err (sym told);
+      by = λ ne ps. ap (λ z. as_error (settled z)) (behind_name ps ∙ leaf_applied ps (end_of m) (after leaf (uses p q (placed p (shape.State q) (declared o m)))) m.tokens.now refl seen) ∙ ap Err (sym told);
     }
 
 -- ---- a state that was used
 
-no_counts : (xs : List Lexeme) → miscounts [] xs ≡ false
-no_counts [] = refl
-no_counts (x ∷ xs) = refl
-
 pub closed_ready : (r : Reader) → IsReady closed r
-closed_ready r = record { last = refl; count = no_counts r.tokens.now }
-
-pub calm_ready : (o : Open) (r : Reader) → o.applications ≡ [] → o.last ≡ any → IsReady o r
-calm_ready o r e f = record { last = f; count = ap (λ a. miscounts a r.tokens.now) e ∙ no_counts r.tokens.now }
+closed_ready r = calm_ready closed r refl refl
 
 -- what is kept of it
 pub kept_leads : (p : Place) (o q : Open) (r m u : Reader) (state : ℕ) → IsReady o r → ReadState p r state m → SameTokens m u
@@ -232,7 +188,7 @@ kept_leads p o q r m u state ready h k e = record {
 
 -- no name stands there, whatever is open
 pub no_state_word : (p : Place) (r : Reader) (e : SpecError) → UsesState p → HasNoWord (terminal.Named p) r e → StopsState p r e
-no_state_word p r e u h = record { by = λ o ready. no_name_stops p o r (uses_means p u) ready e h }
+no_state_word p r e u h = record { by = λ o ready. no_name_stops p r e o ready h }
 
 pub stops_closed : (p : Place) (r : Reader) (e : SpecError) → StopsState p r e → Stops (name p) closed r e
 stops_closed p r e h = h.by closed (closed_ready r)
@@ -325,7 +281,7 @@ word_fault : (ps : List Part) (end : End) (d : Declared) (xs : List Lexeme) → 
 word_fault ps end d [] l a enough e = cc
 word_fault ps end d (x ∷ xs) l a enough e =
     step_fault (one terminal.Automaton ∷ ps) terminal.Automaton ps end d x xs (kind.Limit limit.Automata) (one_front terminal.Automaton ps) e
-    (row_other terminal.Automaton d x tt e (ready_quiet d x l (ap (λ z. wrong_count z x) a)) ∙ counted_row x.text d (Some limit.Automata) (reached 2 d.automata limit.Automata enough))
+    (row_other terminal.Automaton d x tt e (quiet_by d x l (ap (λ z. wrong_count z x) a)) ∙ counted_row x.text d (Some limit.Automata) (reached 2 d.automata limit.Automata enough))
 
 -- a third automaton
 pub third_stops : (r : Reader) (e : SpecError) → 2 ≤ r.automata → sees terminal.Automaton r.tokens.now ≡ true → e ≡ error.Fault (refusal (kind.Limit limit.Automata) r) → Stops (one terminal.Automaton) closed r e
@@ -342,7 +298,7 @@ automaton_leads r u x few seen tokens end state = record {
       let matched : matches terminal.Automaton x ≡ true = rw tokens at seen in
       ap settled (ap (outcome (end_of r) (one terminal.Automaton ∷ ps) d) tokens
       ∙ step_on (one terminal.Automaton ∷ ps) terminal.Automaton ps (end_of r) d x u.tokens.now (one_front terminal.Automaton ps) matched
-      (row_other terminal.Automaton d x tt matched (ready_quiet d x refl refl) ∙ counted_row x.text d None (below 2 d.automata limit.Automata few))
+      (row_other terminal.Automaton d x tt matched (quiet_by d x refl refl) ∙ counted_row x.text d None (below 2 d.automata limit.Automata few))
       ∙ (λ i. outcome (sym end i) ps (sym state i) u.tokens.now));
 }
 
@@ -355,11 +311,6 @@ symbol_row text d f n s a m = rw (short text s, m, a, and-false (nat_lt 0 n)) re
 symbol_adds : (text : Text) (d : Declared) (f n : ℕ) → meaning d place.TransitionHead text ≡ a_symbol f n → adds (terminal.Named place.TransitionHead) text d ≡ named place.TransitionHead (a_symbol f n) d
 unfolding adds
 symbol_adds text d f n m = ap (λ m. named place.TransitionHead m d) m
-
-constant_paren : (ps : List Part) (end : End) (d : Declared) (xs : List Lexeme) → sees terminal.OpenParen xs ≡ true → outcome end ps (after constant d) xs ≡ Err (refusal_at kind.WrongArity end xs)
-unfolding wrong_arity
-constant_paren ps end d [] e = cc
-constant_paren ps end d (x ∷ rest) e = step_wrong ps end (after constant d) x rest (rw e refl)
 
 head_meaning : (text : Text) (d : Declared) → meaning d place.TransitionHead text ≡ or_else (as_symbol d.symbols (number_of d.symbols text)) (as_state (position (bytes_eq text) (current d).states))
 unfolding meaning
@@ -428,7 +379,7 @@ module _ (r m : Reader) (text : Text) (s : Stands (terminal.Named place.Transiti
         let few : length s.token.text ≤ 255 = subst (λ z. length z ≤ 255) (sym s.text_is) s.short in
         let means : meaning d place.TransitionHead s.token.text ≡ a_symbol f n = ap (meaning d place.TransitionHead) s.text_is ∙ means in
         ap (outcome (end_of r) (head ∷ ps) d) s.tokens
-        ∙ step_on (head ∷ ps) t ps (end_of r) d s.token s.rest (one_front t ps) s.matched (row_other t d s.token tt s.matched (ready_quiet d s.token refl refl) ∙ symbol_row s.token.text d f n few refl means)
+        ∙ step_on (head ∷ ps) t ps (end_of r) d s.token s.rest (one_front t ps) s.matched (row_other t d s.token tt s.matched (quiet_by d s.token refl refl) ∙ symbol_row s.token.text d f n few refl means)
         ∙ ap (λ z. outcome (end_of r) ps z s.rest) (symbol_adds s.token.text d f n means)
         ∙ (λ i. outcome (sym h.end i) ps (named place.TransitionHead (a_symbol f n) (sym h.state i)) (same i))
 
@@ -441,7 +392,7 @@ module _ (r m : Reader) (text : Text) (s : Stands (terminal.Named place.Transiti
 
     pub constant_stops : (e : SpecError) → sees terminal.OpenParen m.tokens.now ≡ true → e ≡ error.Fault (refusal kind.WrongArity m) → Stops head closed r e
     constant_stops e seen told = record {
-      by = λ ne ps. ap (λ z. as_error (settled z)) (behind_symbol f 0 means ps ∙ constant_paren ps (end_of m) (declared (headed (symbol_head f) []) m) m.tokens.now seen) ∙ ap Err (sym told);
+      by = λ ne ps. ap (λ z. as_error (settled z)) (behind_symbol f 0 means ps ∙ constant_applied ps (end_of m) (after constant (declared (headed (symbol_head f) []) m)) m.tokens.now refl seen) ∙ ap Err (sym told);
     }
 
   -- a symbol with arguments

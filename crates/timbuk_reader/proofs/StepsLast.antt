@@ -171,12 +171,12 @@ meant_after : (t : Terminal) (text : Text) (d : Declared) (l : Last) → meant t
 meant_after (terminal.Named p) text d l = meaning_after p text d l
 meant_after _ text d l = refl
 
-passed_after : (t : Terminal) (text : Text) (d : Declared) (l : Last) → passed t text (after l d) ≡ passed t text d
+pub passed_after : (t : Terminal) (text : Text) (d : Declared) (l : Last) → passed t text (after l d) ≡ passed t text d
 unfolding passed
 passed_after t text d l = λ i. or (long_name t text) (or ((ap (λ m. too_deep m (after l d)) (meant_after t text d l) ∙ deep_after (meant t text d) d l) i)
     (or ((ap (λ m. one_too_many m (after l d)) (meant_after t text d l) ∙ many_after (meant t text d) d l) i) (over_after t text d l i)))
 
-misnamed_after : (t : Terminal) (text : Text) (d : Declared) (l : Last) → misnamed t text (after l d) ≡ misnamed t text d
+pub misnamed_after : (t : Terminal) (text : Text) (d : Declared) (l : Last) → misnamed t text (after l d) ≡ misnamed t text d
 unfolding misnamed
 misnamed_after t text d l = λ i. or (when (is_use t && is_unknown (meant_after t text d l i)) kind.UnknownName) (or (when (double_after t text d l i) kind.DoubleName)
     (or (when ((ap (λ m. variable_left t m (after l d)) (meant_after t text d l) ∙ left_after t (meant t text d) d l) i) kind.VariableLeft)

@@ -18,16 +18,17 @@ use Rattle.timbuk_grammar.specs.Matching.{matches}
 use Rattle.timbuk_grammar.proofs.Differ.{apart}
 use Rattle.timbuk_reader.specs.declared.fault.LimitName.{LimitName}
 use Rattle.timbuk_reader.specs.declared.fault.LimitName.TheVariants as limit
-use Rattle.timbuk_reader.specs.Declarations.{Text, Declared, Application, Last, any, leaf, constant, function, Meaning, unknown, a_symbol, no_head, or_else, as_symbol, as_variable, as_state, meaning}
+use Rattle.timbuk_reader.specs.Declarations.{Text, Declared, Application, Last, constant, function, Meaning, unknown, a_symbol, no_head, or_else, as_symbol, as_variable, as_state, meaning}
 use Rattle.timbuk_reader.specs.Naming.{IsShort, Names, leaf_shape}
 use Rattle.timbuk_reader.specs.Rows.{row, or, when, wrong_arity, wrong_after, wrong_count, unexpected_after, expected, too_deep, one_too_many, passed, misnamed, is_unknown}
-use Rattle.timbuk_reader.proofs.TieLast.{IsQuiet}
+use Rattle.timbuk_reader.proofs.TieLast.{IsQuiet, quiet_after}
 use Rattle.timbuk_reader.proofs.TieNamesRuns.{or-none, or_parts_none, when-false, when_none, row-none, row_parts}
 use Rattle.timbuk_reader.proofs.TieNamesRows.{is_plain, opens, is_expected, passed_plain, misnamed_plain, is_name}
 use Rattle.timbuk_reader.proofs.TieNamesTexts.{position_found, Contains-position}
 use Rattle.timbuk_reader.proofs.TieSides as sides
 use Rattle.timbuk_reader.proofs.TieApproximationVariables.{IsFew, too_many, room, few_with}
 use Rattle.timbuk_reader.proofs.TieShapes.{shape_occurrences_var, shape_occurrences_state}
+use Rattle.timbuk_reader.proofs.TiePatternNames.{counts_not}
 
 -- ---- states
 
@@ -45,20 +46,10 @@ AreShort d = sides.AreShort (names_at d)
 
 -- ---- the arity, and what may follow
 
-quiet_after : (l : Last) (x : Lexeme) → IsQuiet l → matches terminal.OpenParen x ≡ false → wrong_after l x ≡ false
-quiet_after any x q e = refl
-quiet_after leaf x q e = refl
-quiet_after constant x q e = e
-quiet_after function x q e = absurd q
-
-uncounted : (applications : List Application) (x : Lexeme) → matches terminal.CloseParen x ≡ false → matches terminal.Comma x ≡ false → wrong_count applications x ≡ false
-uncounted [] x e f = refl
-uncounted (a ∷ outer) x e f = or_from _ _ (and_left _ _ e) (and_left _ _ f)
-
 -- a token that is no parenthesis and no comma
 pub arity_right : (d : Declared) (x : Lexeme) → IsQuiet d.last → matches terminal.OpenParen x ≡ false → matches terminal.CloseParen x ≡ false → matches terminal.Comma x ≡ false → wrong_arity d x ≡ false
 unfolding wrong_arity
-arity_right d x q a b c = or_from _ _ (quiet_after d.last x q a) (uncounted d.applications x b c)
+arity_right d x q a b c = or_from _ _ (quiet_after d.last x q a) (counts_not d.applications x b c)
 
 -- ---- words and marks
 
@@ -128,7 +119,7 @@ pub open_row : (d : Declared) (x : Lexeme) → d.last ≡ function → matches t
 unfolding wrong_arity expected
 open_row d x l e =
     row-none terminal.OpenParen d x e
-    (or_from _ _ (ap (λ l. wrong_after l x) l ∙ ap not e) (uncounted d.applications x (apart terminal.OpenParen terminal.CloseParen x refl e) (apart terminal.OpenParen terminal.Comma x refl e)))
+    (or_from _ _ (ap (λ l. wrong_after l x) l ∙ ap not e) (counts_not d.applications x (apart terminal.OpenParen terminal.CloseParen x refl e) (apart terminal.OpenParen terminal.Comma x refl e)))
     (or_from _ _ (ap (λ l. unexpected_after l x) l) (and_left _ _ (apart terminal.OpenParen terminal.Approximation x refl e)))
     (passed_plain terminal.OpenParen x.text d refl)
     (misnamed_plain terminal.OpenParen x.text d refl)

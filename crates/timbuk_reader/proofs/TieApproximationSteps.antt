@@ -9,7 +9,7 @@ use Rattle.timbuk_reader.specs.Declarations.{Declared, adds}
 use Rattle.timbuk_reader.specs.Rows.{row}
 use Rattle.timbuk_reader.specs.Reading.{Outcome, End, unless}
 use Rattle.timbuk_reader.proofs.Labels.{Label, label, judge}
-use Rattle.timbuk_reader.proofs.TieLast.{calm}
+use Rattle.timbuk_reader.specs.View.{settled as calm}
 
 -- what is read, where the last token is forgotten at the end
 abbrev pub reads : End → Declared → List Label → Outcome

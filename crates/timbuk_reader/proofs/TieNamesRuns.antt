@@ -88,7 +88,7 @@ word_open : (k : Bool) (text a : List ℕ) → is_closed a ≡ false → (k && b
 word_open false text a d e = refl
 word_open true text a d e = ap is_closed ((bytes_eq-Decides text a).0 e) ∙ d
 
-mark_open : (k : TokenKind) (p q : Bool) → (is_mark k && p) ≡ true → (is_word k && q) ≡ false
+pub mark_open : (k : TokenKind) (p q : Bool) → (is_mark k && p) ≡ true → (is_word k && q) ≡ false
 mark_open Word p q e = cc
 mark_open Text p q e = refl
 mark_open Mark p q e = refl
@@ -98,7 +98,7 @@ text_open Word q e = cc
 text_open Text q e = refl
 text_open Mark q e = refl
 
-name_open : (k : Bool) (text : List ℕ) → (k && not (is_reserved text)) ≡ true → (k && is_closed text) ≡ false
+pub name_open : (k : Bool) (text : List ℕ) → (k && not (is_reserved text)) ≡ true → (k && is_closed text) ≡ false
 unfolding is_reserved
 name_open k text e = and_right k (is_closed text) (or_parts _ (is_closed text) (not-true _ (and_parts k _ e).1)).1
 

@@ -1,9 +1,7 @@
 -- Rows at tokens after a quiet one, and the places of patterns.
-use Rattle.std.proofs.Common.{◌≡◌, Bool, true, false, not, ◌&&◌, ◌||◌, ◌==◌, List, [], ◌∷◌, refl, ap, ◌∙◌}
+use Rattle.std.proofs.Common.{◌≡◌, Bool, true, false, ◌&&◌, ◌||◌, ◌==◌, List, [], ◌∷◌, refl, ap, ◌∙◌}
 use Rattle.std.specs.Prelude.{Option, Some, None, option_map}
 use Rattle.timbuk_lex.specs.declared.lexeme.Lexeme.{Lexeme}
-use Rattle.timbuk_lex.specs.declared.lexeme.TokenKind.{TokenKind}
-use Rattle.timbuk_lex.specs.declared.lexeme.TokenKind.TheVariants.{Word, Text as Quotation, Mark}
 use Rattle.timbuk_grammar.specs.declared.terminal.Place.{Place}
 use Rattle.timbuk_grammar.specs.declared.terminal.Place.TheVariants as place
 use Rattle.timbuk_grammar.specs.declared.terminal.Terminal.{Terminal}
@@ -17,6 +15,7 @@ use Rattle.timbuk_reader.specs.Naming.{Names, stands_for}
 use Rattle.timbuk_reader.specs.Declarations.{Text, Declared, Application, meaning}
 use Rattle.timbuk_reader.specs.Rows.{row, or as earlier, when, wrong_count, wrong_arity, expected, is_closed_word, at_terminal}
 use Rattle.timbuk_reader.proofs.TieLast.{forgets}
+use Rattle.timbuk_reader.proofs.TieNamesRuns.{name_open, mark_open}
 
 -- ---- rows, one after the other
 
@@ -45,23 +44,12 @@ pub record IsPlain (x : Lexeme) : Type 0 where
   pub open_word : is_closed_word x ≡ false
   pub no_section : matches terminal.Approximation x ≡ false
 
-name_open : (w a c : Bool) → (w && not (a || c)) ≡ true → (w && c) ≡ false
-name_open true true c e = cc
-name_open true false true e = cc
-name_open true false false e = refl
-name_open false a c e = refl
-
 pub name_plain : {p : Place} (n : Token (terminal.Named p)) → IsPlain n.lexeme
 unfolding is_reserved
 name_plain {p = p} n = record {
-  open_word = name_open (is_word n.lexeme.kind) _ (is_closed n.lexeme.text) n.matched;
+  open_word = name_open (is_word n.lexeme.kind) n.lexeme.text n.matched;
   no_section = apart (terminal.Named p) terminal.Approximation n.lexeme refl n.matched;
 }
-
-mark_open : (k : TokenKind) (a c : Bool) → (is_mark k && a) ≡ true → (is_word k && c) ≡ false
-mark_open Word a c e = cc
-mark_open Quotation a c e = cc
-mark_open Mark a c e = refl
 
 pub mark_plain : (x : Lexeme) (a : Bool) → (is_mark x.kind && a) ≡ true → matches terminal.Approximation x ≡ false → IsPlain x
 mark_plain x a e f = record { open_word = mark_open x.kind a (is_closed x.text) e; no_section = f }

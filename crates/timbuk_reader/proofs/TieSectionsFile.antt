@@ -15,7 +15,8 @@ use Rattle.timbuk_reader.specs.Reading.{Outcome, End, end_by}
 use Rattle.timbuk_reader.specs.SpecText.{automata_in, Spells}
 use Rattle.timbuk_reader.specs.Spelled.{IsSpecOf}
 use Rattle.timbuk_reader.proofs.Labels.{labelled, judge}
-use Rattle.timbuk_reader.proofs.TieLast.{forgets, calm}
+use Rattle.timbuk_reader.specs.View.{settled as calm}
+use Rattle.timbuk_reader.proofs.TieLast.{forgets}
 use Rattle.timbuk_reader.proofs.TieNamesRuns.{when-false, when_none}
 use Rattle.timbuk_reader.proofs.TieNamesTexts.{AreSymbols-nil, AreNewNames-nil}
 use Rattle.timbuk_reader.proofs.TieNames.{with_symbols, with_variables, maybe_ops_lead, maybe_vars_lead}

@@ -1,17 +1,17 @@
 -- What sections declare, kind by kind, and one section more.
-use Rattle.std.proofs.Common.{◌≡◌, ℕ, ◌+◌, ◌<◌, ◌≤◌, false, List, [], ◌∷◌, ◌++◌, length, All, Contains, refl, sym, ap, subst, ◌∙◌, append_assoc, length-append, arith}
+use Rattle.std.proofs.Common.{◌≡◌, ◌+◌, ◌<◌, ◌≤◌, List, [], ◌∷◌, ◌++◌, length, All, Contains, refl, sym, ap, subst, ◌∙◌, append_assoc, length-append, arith}
 use Rattle.std.specs.Prelude.{flat_map}
-use Rattle.std.specs.List.{AllZip, IsDistinct, AllByRecursion}
-use Rattle.std.specs.Str.{bytes_eq}
+use Rattle.std.specs.List.{AllZip}
 use Rattle.std.proofs.lemmas.List.{append-nil}
 use Rattle.std.proofs.lemmas.List.Elements.{All-nil, All-cons, All-head, All-tail, All-push}
 use Rattle.ranked_terms.specs.Names.{Symbol, names_of}
 use Rattle.trs_rules.specs.declared.entry.Entry.{Entry}
 use Rattle.timbuk_reader.specs.Declarations.{Text}
 use Rattle.timbuk_reader.specs.Source.{RuleDeclaration, EquationDeclaration, AutomatonDeclaration, ApproximationRule, Section, system, automaton, equations, approximation}
-use Rattle.timbuk_reader.specs.Naming.{IsShort, AreNewNames, Names, IsTransition}
+use Rattle.timbuk_reader.specs.Naming.{AreNewNames, Names, IsTransition}
 use Rattle.timbuk_reader.specs.SpecText.{systems_in, automata_in, equations_in, approximations_in, NoneEarly, IsEntryFrom, entries_of, all_of}
 use Rattle.timbuk_reader.proofs.TieApproximation.{cut, both}
+use Rattle.timbuk_reader.proofs.TieNamesTexts.{AreNewNames-front}
 
 -- ---- sections kind by kind
 
@@ -150,23 +150,6 @@ all_front A (x ∷ xs) ys h = All-cons A x xs (All-head A x (xs ++ ys) h) (all_f
 pub all_last : {X : Type 0} (A : X → Type 0) (xs : List X) (x : X) → All A (xs ++ x ∷ []) → A x
 all_last A [] x h = All-head A x [] h
 all_last A (y ∷ xs) x h = all_last A xs x (All-tail A y (xs ++ x ∷ []) h)
-
-apart_front : (x : Text) (xs ys : List Text) → AllByRecursion (λ z. bytes_eq x z ≡ false) (xs ++ ys) → AllByRecursion (λ z. bytes_eq x z ≡ false) xs
-apart_front x [] ys h = tt
-apart_front x (z ∷ xs) ys h = (h.0, apart_front x xs ys h.1)
-
-distinct_front : (xs ys : List Text) → IsDistinct bytes_eq (xs ++ ys) → IsDistinct bytes_eq xs
-unfolding IsDistinct
-distinct_front [] ys h = tt
-distinct_front (x ∷ xs) ys h = (apart_front x xs ys h.0, distinct_front xs ys h.1)
-
--- the first of some new names
-pub new_front : (taken : List Text) (most : ℕ) (xs ys : List Text) → AreNewNames taken most (xs ++ ys) → AreNewNames taken most xs
-new_front taken most xs ys h = record {
-  short = all_front IsShort xs ys h.short;
-  distinct = distinct_front (taken ++ xs) ys (subst (IsDistinct bytes_eq) (sym (append_assoc taken xs ys)) h.distinct);
-  few = omega (arith, h.few, length-append xs ys);
-}
 
 -- what belongs to nothing
 none_zip : {X Y : Type 0} (A B : X → Y → Type 0) (ys : List Y) → AllZip A [] ys → AllZip B [] ys
@@ -367,7 +350,7 @@ module _ {P Q : Type 0} (R : RuleDeclaration → P → Type 0) (T : EquationDecl
       → AreNewNames (names_of symbols ++ variables) 16384 (initial_states (automata ++ a ∷ []) ++ extra_of approximations)
       → AreNewNames (names_of symbols ++ variables) 16384 (initial_states automata ++ extra_of approximations)
   states_before [] approximations a late h =
-      subst (λ l. AreNewNames (names_of symbols ++ variables) 16384 (extra_of l)) (sym (late refl)) (new_front (names_of symbols ++ variables) 16384 [] (a.states ++ extra_of approximations) h)
+      subst (λ l. AreNewNames (names_of symbols ++ variables) 16384 (extra_of l)) (sym (late refl)) (AreNewNames-front (names_of symbols ++ variables) 16384 [] (a.states ++ extra_of approximations) h)
   states_before (first ∷ others) approximations a late h = h
 
   no_last : (automata : List AutomatonDeclaration) (a : AutomatonDeclaration) → automata ++ a ∷ [] ≡ [] → ⊥
@@ -478,7 +461,7 @@ module _ {P Q : Type 0} (R : RuleDeclaration → P → Type 0) (T : EquationDecl
           automata = h.automata;
           one_approximation = omega (arith, room);
           late = λ e. none;
-          states = new_front (names_of symbols ++ variables) 16384 (initial_states p.automata ++ extra_of p.approximations) names new;
+          states = AreNewNames-front (names_of symbols ++ variables) 16384 (initial_states p.automata ++ extra_of p.approximations) names new;
           few_entries = omega arith;
           entries = subst (λ l. AllZip (IsEntryFrom (names_with (initial_states p.automata ++ extra_of l))) (entries_of (rules_of l)) []) (sym none) tt;
         };

@@ -17,10 +17,11 @@ use Rattle.timbuk_reader.proofs.TieRules.{rule_sides}
 use Rattle.timbuk_reader.proofs.TieEquations.{equation_sides}
 use Rattle.timbuk_reader.proofs.TieAutomata.{started_by}
 use Rattle.timbuk_reader.proofs.TieAutomatonSpecs.{IsStartedBy, started_by-is, automaton_from, automaton_to, bare-none, none-bare}
-use Rattle.timbuk_reader.proofs.TieSectionsParts.{parts_of, new_front, initial_states, IsDeclarable}
+use Rattle.timbuk_reader.proofs.TieSectionsParts.{parts_of, initial_states, IsDeclarable}
 use Rattle.timbuk_reader.proofs.TieSectionsSteps.{AreRuleSides, AreEquationSides}
 use Rattle.timbuk_reader.proofs.TieSectionsStates.{Sides, initial_of, second_of, names_of_sides, AreSpelled, AreRead, closed_at, spelled_at}
 use Rattle.timbuk_reader.proofs.TieSections.{AreOrderly}
+use Rattle.timbuk_reader.proofs.TieNamesTexts.{AreNewNames-front}
 
 -- ---- rules and equations
 
@@ -135,7 +136,7 @@ module _ (source : Source) (spec : Spec) (h : Spells source spec) where
 
   automata : AreDeclarable (symbols_of source) source.variables (h.first ∷ h.others)
   automata = are_declarable (symbols_of source) source.variables h.first h.others spec.initial spec.forbidden
-      (new_front (names_of (symbols_of source) ++ source.variables) 16384 h.first.states (extra_states source.sections) new_states) initial forbidden
+      (AreNewNames-front (names_of (symbols_of source) ++ source.variables) 16384 h.first.states (extra_states source.sections) new_states) initial forbidden
 
   -- a fact about the automata
   abbrev there : (F : List AutomatonDeclaration → Type 0) → F (h.first ∷ h.others) → F (automata_in source.sections)

@@ -18,7 +18,8 @@ use Rattle.timbuk_reader.specs.SpecText.{IsRuleFrom, IsEquationFrom}
 use Rattle.timbuk_reader.specs.Rows.{passed}
 use Rattle.timbuk_reader.specs.Reading.{Outcome, End}
 use Rattle.timbuk_reader.proofs.Labels.{Label, label, labelled, judge}
-use Rattle.timbuk_reader.proofs.TieLast.{IsQuiet, NotOpening, calm, calm_judge}
+use Rattle.timbuk_reader.specs.View.{settled as calm}
+use Rattle.timbuk_reader.proofs.TieLast.{IsQuiet, NotOpening, calm_judge}
 use Rattle.timbuk_reader.proofs.TieSides as sides
 use Rattle.timbuk_reader.proofs.TieSides.{rule_names}
 use Rattle.timbuk_reader.proofs.TieRules.{RuleShape, rules_only, rules_behind, rule_sides, rules_spelled}

@@ -16,7 +16,9 @@ use Rattle.timbuk_reader.specs.Declarations.{Text, Declared, Last, any, leaf, co
 use Rattle.timbuk_reader.specs.Rows.{row, end_row, when, wrong_arity, wrong_after, wrong_count, unexpected_after, expected, is_closed_word, passed, misnamed}
 use Rattle.timbuk_reader.specs.Reading.{End, unless}
 use Rattle.timbuk_reader.proofs.Labels.{Label, label, judge}
-use Rattle.timbuk_reader.proofs.TieLast.{with_last, forgets, calm, settled, IsQuiet, NotOpening, placed_last, calm_judge, settled_step, settled_row, settled_on, calm_unless}
+use Rattle.timbuk_reader.specs.View.{settled as calm}
+use Rattle.timbuk_reader.proofs.StepsLast.{after, placed_after}
+use Rattle.timbuk_reader.proofs.TieLast.{forgets, settled, IsQuiet, NotOpening, calm_judge, settled_step, settled_row, settled_on, calm_unless}
 use Rattle.timbuk_reader.proofs.TiePatternNames.{no_rows, no_row_yet, not_when, when_not, mark_plain, counts_not, plain_row, no_row_at, IsPattern, in_left, in_right, in_equation_left, in_equation_right, in_whole, names_at, meaning_is}
 use Rattle.timbuk_reader.proofs.TieFits.{fits, NameFits, name_fine, name_only}
 
@@ -76,20 +78,20 @@ quiet_leaf (a_variable v) = tt
 quiet_leaf (a_state q) = tt
 quiet_leaf (a_symbol f n) = tt
 
-named_leaf : {p : Place} → IsPattern p → (m : Meaning) (s : Shape) (d : Declared) → leaf_shape m ≡ Some s → named p m d ≡ with_last (last_of m) (placed p s (with_bound (meant_variables m) d))
+named_leaf : {p : Place} → IsPattern p → (m : Meaning) (s : Shape) (d : Declared) → leaf_shape m ≡ Some s → named p m d ≡ after (last_of m) (placed p s (with_bound (meant_variables m) d))
 named_leaf k unknown s d e = cc
 named_leaf {p = p} k (a_variable v) s d e =
     let is : shape.Var v ≡ s = cc in
-    ap (λ z. with_last leaf (placed p (shape.Var v) z)) (binds_is k v d) ∙ ap (λ z. with_last leaf (placed p z (with_bound (v ∷ []) d))) is
+    ap (λ z. after leaf (placed p (shape.Var v) z)) (binds_is k v d) ∙ ap (λ z. after leaf (placed p z (with_bound (v ∷ []) d))) is
 named_leaf {p = p} k (a_state q) s d e =
     let is : shape.State q ≡ s = cc in
-    ap (with_last leaf) (uses_is k q (placed p (shape.State q) d)) ∙ ap (λ z. with_last leaf (placed p z d)) is
+    ap (after leaf) (uses_is k q (placed p (shape.State q) d)) ∙ ap (λ z. after leaf (placed p z d)) is
 named_leaf {p = p} k (a_symbol f zero) s d e =
     let is : shape.App f [] ≡ s = cc in
-    ap (λ z. with_last constant (placed p (shape.App f []) z)) (begins_is k f d) ∙ ap (λ z. with_last constant (placed p z d)) is
+    ap (λ z. after constant (placed p (shape.App f []) z)) (begins_is k f d) ∙ ap (λ z. after constant (placed p z d)) is
 named_leaf k (a_symbol f (suc n)) s d e = cc
 
-named_function : {p : Place} → IsPattern p → (f n : ℕ) (d : Declared) → named p (a_symbol f (suc n)) d ≡ with_last function (inside p f (suc n) [] d)
+named_function : {p : Place} → IsPattern p → (f n : ℕ) (d : Declared) → named p (a_symbol f (suc n)) d ≡ after function (inside p f (suc n) [] d)
 named_function {p = p} k f n d = ap (λ (z : Declared). record z { applications = record { place = p; sym = f; arity = suc n; args = [] } ∷ d.applications; last = function }) (begins_is k f d)
 
 -- what a name adds, by what it stands for
@@ -104,16 +106,16 @@ leaf_fine {p = p} k n d s h e end rest clear =
     let m = stands_for (names_at p d) (text_of n) in
     settled_step end d (label n) rest (name_fine k n d h)
     ∙ ap (λ z. calm (judge end z rest)) (name_adds k (text_of n) d ∙ named_leaf k m s d e)
-    ∙ calm_judge end (with_last (last_of m) (placed p s (with_bound (meant_variables m) d))) rest (quiet_leaf m) clear
+    ∙ calm_judge end (after (last_of m) (placed p s (with_bound (meant_variables m) d))) rest (quiet_leaf m) clear
 
 -- after a symbol of an arity above 0 no pattern ends
-function_ends : (end : End) (d e : Declared) (rest : List Label) → NotOpening rest → calm (judge end (with_last function d) rest) ≡ Ok e → ⊥
+function_ends : (end : End) (d e : Declared) (rest : List Label) → NotOpening rest → calm (judge end (after function d) rest) ≡ Ok e → ⊥
 unfolding row end_row wrong_arity
 function_ends end d e [] clear h = cc
 function_ends end d e (x ∷ xs) clear h =
-    let a = calm_unless (row (Some x.0) (with_last function d) x.1) x.1 _ e h in
+    let a = calm_unless (row (Some x.0) (after function d) x.1) x.1 _ e h in
     let b = no_rows (when (is_closed_word x.1) kind.UnknownSection) _ a in
-    let c = no_rows (when (wrong_arity (with_last function d) x.1) kind.WrongArity) _ b.1 in
+    let c = no_rows (when (wrong_arity (after function d) x.1) kind.WrongArity) _ b.1 in
     let f = or_parts (not (matches terminal.OpenParen x.1)) (wrong_count d.applications x.1) (not_when _ kind.WrongArity c.0) in
     true≢false (sym (ap not clear) ∙ f.0)
 
@@ -142,7 +144,7 @@ leaf_only {p = p} k n d e end rest clear h =
 
 -- ---- a name with arguments
 
-opening_row : (d : Declared) (opening : Token terminal.OpenParen) → row (Some terminal.OpenParen) (with_last function d) opening.lexeme ≡ None
+opening_row : (d : Declared) (opening : Token terminal.OpenParen) → row (Some terminal.OpenParen) (after function d) opening.lexeme ≡ None
 unfolding row wrong_arity expected passed misnamed
 opening_row d opening =
     let x = opening.lexeme in
@@ -153,7 +155,7 @@ opening_row d opening =
     (no_row_yet _ _ (when_not _ kind.Expected (ap (λ z. z && d.automata == 0) plain.no_section))
     refl))
 
-opening_step : (end : End) (d : Declared) (opening : Token terminal.OpenParen) (rest : List Label) → calm (judge end (with_last function d) (label opening ∷ rest)) ≡ settled end d rest
+opening_step : (end : End) (d : Declared) (opening : Token terminal.OpenParen) (rest : List Label) → calm (judge end (after function d) (label opening ∷ rest)) ≡ settled end d rest
 unfolding adds
 opening_step end d opening rest = ap (λ k. calm (unless k opening.lexeme (judge end (forgets d) rest))) (opening_row d opening)
 
@@ -164,20 +166,20 @@ opens_fine {p = p} k n opening d f a h is end rest =
     ∙ ap (λ z. calm (judge end z (label opening ∷ rest))) (name_adds k (text_of n) d ∙ ap (λ m. named p m d) is ∙ named_function k f a d)
     ∙ opening_step end (inside p f (suc a) [] d) opening rest
 
-leaf_opens : (d : Declared) (opening : Token terminal.OpenParen) → row (Some terminal.OpenParen) (with_last leaf d) opening.lexeme ≡ None → ⊥
+leaf_opens : (d : Declared) (opening : Token terminal.OpenParen) → row (Some terminal.OpenParen) (after leaf d) opening.lexeme ≡ None → ⊥
 unfolding row expected
 leaf_opens d opening h =
     let a = no_rows (when (is_closed_word opening.lexeme) kind.UnknownSection) _ h in
-    let b = no_rows (when (wrong_arity (with_last leaf d) opening.lexeme) kind.WrongArity) _ a.1 in
-    let c = no_rows (when (expected (Some terminal.OpenParen) (with_last leaf d) opening.lexeme) kind.Expected) _ b.1 in
+    let b = no_rows (when (wrong_arity (after leaf d) opening.lexeme) kind.WrongArity) _ a.1 in
+    let c = no_rows (when (expected (Some terminal.OpenParen) (after leaf d) opening.lexeme) kind.Expected) _ b.1 in
     let f = or_parts (unexpected_after leaf opening.lexeme) _ (not_when _ kind.Expected c.0) in
     true≢false (sym opening.matched ∙ f.0)
 
-constant_opens : (d : Declared) (opening : Token terminal.OpenParen) → row (Some terminal.OpenParen) (with_last constant d) opening.lexeme ≡ None → ⊥
+constant_opens : (d : Declared) (opening : Token terminal.OpenParen) → row (Some terminal.OpenParen) (after constant d) opening.lexeme ≡ None → ⊥
 unfolding row wrong_arity
 constant_opens d opening h =
     let a = no_rows (when (is_closed_word opening.lexeme) kind.UnknownSection) _ h in
-    let b = no_rows (when (wrong_arity (with_last constant d) opening.lexeme) kind.WrongArity) _ a.1 in
+    let b = no_rows (when (wrong_arity (after constant d) opening.lexeme) kind.WrongArity) _ a.1 in
     let f = or_parts (wrong_after constant opening.lexeme) (wrong_count d.applications opening.lexeme) (not_when _ kind.WrongArity b.0) in
     true≢false (sym opening.matched ∙ f.0)
 
@@ -256,7 +258,7 @@ count_close true b x y e f = or_from _ _ e (ap (λ z. z && y) f)
 count_close false b x y e f = ap (λ z. z && y) f
 
 quiet_placed : (p : Place) (s : Shape) (d : Declared) → IsQuiet (placed p s (forgets d)).last
-quiet_placed p s d = subst IsQuiet (sym (ap (λ (z : Declared). z.last) (placed_last any p s d))) tt
+quiet_placed p s d = subst IsQuiet (sym (ap (λ (z : Declared). z.last) (placed_after p s d any))) tt
 
 pub close_fine : (p : Place) (f n : ℕ) (args : List Shape) (d : Declared) (closing : Token terminal.CloseParen) → n ≤ length args
     → (end : End) (rest : List Label) → NotOpening rest → settled end (inside p f n args d) (label closing ∷ rest) ≡ settled end (placed p (shape.App f args) d) rest
@@ -267,7 +269,7 @@ close_fine p f n args d closing h end rest clear =
     (close_row (inside p f n args d) closing
     (count_close (matches terminal.CloseParen x) _ (matches terminal.Comma x) _ (le-ltb (length args) n h) (apart terminal.CloseParen terminal.Comma x refl closing.matched)))
     (quiet_placed p (shape.App f args) d) clear
-    ∙ ap (λ z. settled end z rest) (placed_last any p (shape.App f args) d)
+    ∙ ap (λ z. settled end z rest) (placed_after p (shape.App f args) d any)
 
 pub close_only : (p : Place) (f n : ℕ) (args : List Shape) (d e : Declared) (closing : Token terminal.CloseParen) (end : End) (rest : List Label)
     → settled end (inside p f n args d) (label closing ∷ rest) ≡ Ok e → n ≤ length args

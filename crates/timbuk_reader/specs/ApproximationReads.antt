@@ -1,5 +1,5 @@
 -- What the functions that read approximations do.
-use Rattle.std.specs.Prelude.{◌≡◌, ◌≢◌, ◌+◌, ◌<◌, ◌≤◌, ℕ, zero, suc, Bool, true, false, ◌&&◌, ◌||◌, if◌then◌else◌, nat_lt, List, [], ◌∷◌, ◌++◌, length, map, Some, IsTrue}
+use Rattle.std.specs.Prelude.{◌≡◌, ◌+◌, ◌<◌, ◌≤◌, ℕ, zero, suc, Bool, true, ◌||◌, if◌then◌else◌, nat_lt, List, [], ◌∷◌, ◌++◌, length, map, Some, IsTrue}
 use Rattle.std.specs.List.{list_all}
 use Rattle.ranked_terms.specs.Names.{arity_of}
 use Rattle.ranked_terms.specs.Terms.{joined}
@@ -7,7 +7,6 @@ use Rattle.ranked_terms.specs.declared.term.Shape.{Shape}
 use Rattle.ranked_terms.specs.declared.term.Shape.TheVariants as shape
 use Rattle.trs_rules.specs.declared.entry.Entry.{Entry}
 use Rattle.ta_core.specs.SpecRules.{shape_is_over, shape_is_below, shape_occurrences}
-use Rattle.timbuk_lex.specs.declared.lexeme.Lexeme.{Lexeme}
 use Rattle.timbuk_grammar.specs.declared.terminal.Place.{Place}
 use Rattle.timbuk_grammar.specs.declared.terminal.Place.TheVariants as place
 use Rattle.timbuk_grammar.specs.declared.terminal.Terminal.TheVariants as terminal
@@ -20,8 +19,7 @@ use Rattle.timbuk_reader.specs.declared.approximation.Form.{Form}
 use Rattle.timbuk_reader.specs.declared.approximation.Leaf.{Leaf}
 use Rattle.timbuk_reader.specs.declared.approximation.Leaf.TheVariants as leaf
 use Rattle.timbuk_reader.specs.declared.approximation.StartedEntry.{StartedEntry}
-use Rattle.timbuk_reader.specs.Declarations.{Text, Application, Declared, any, constant, function, Meaning, a_variable, a_state, meaning, has, with_variable, named}
-use Rattle.timbuk_reader.specs.Rows.{wrong_count}
+use Rattle.timbuk_reader.specs.Declarations.{Text, any, constant, function, Meaning, a_variable, a_state, meaning, has, with_variable, named}
 use Rattle.timbuk_reader.specs.Reading.{outcome}
 use Rattle.timbuk_reader.specs.View.{Open, declared, state_of, end_of, settled, from, refusal, sees}
 use Rattle.timbuk_reader.specs.Reads.{Stops, Stands}

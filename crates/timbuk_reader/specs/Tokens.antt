@@ -1,5 +1,6 @@
 -- The tokens of an input text as they are told to a caller, and the fault where there are none (this project's own format).
-use Rattle.std.specs.Prelude.{ℕ, ◌&&◌, Bool, nat_lt, List, Option, Some, None, find, length}
+use Rattle.std.specs.Prelude.{◌≡◌, ℕ, ◌+◌, ◌<◌, ◌≤◌, ◌&&◌, Bool, nat_lt, List, [], ◌∷◌, Option, Some, None, find, length}
+use Rattle.std.specs.List.{slice_range}
 use Rattle.timbuk_lex.specs.Lexing.{lexed}
 use Rattle.timbuk_lex.specs.declared.lexeme.Lexeme.{Lexeme}
 use Rattle.timbuk_lex.specs.declared.lex.Ending.{Ending}
@@ -14,6 +15,16 @@ use Rattle.timbuk_reader.specs.Reading.{fault, lexical_kind}
 -- a token with a text of its own
 abbrev pub token_of : Lexeme → Token
 token_of x = record { kind = x.kind; text = x.text; start = x.start; line = x.line; column = x.column }
+
+-- the token's text is the slice of the bytes at its place
+pub record IsSlice (bytes : List ℕ) (t : Token) : Type 0 where
+  pub within : t.start + length t.text ≤ length bytes
+  pub slice : slice_range bytes t.start (t.start + length t.text) ≡ t.text
+
+-- Each token begins at or after the end of the one before, the first at or after this place, and none is empty.
+abbrev pub InOrder : ℕ → List Token → Type 0
+InOrder from [] = Unit {0}
+InOrder from (t ∷ ts) = (from ≤ t.start) × (0 < length t.text) × InOrder (t.start + length t.text) ts
 
 -- a word of more than 255 bytes
 abbrev pub is_long_word : Lexeme → Bool

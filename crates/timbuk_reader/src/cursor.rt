@@ -5,15 +5,14 @@ ghost use Rattle.timbuk_lex.specs.Laws.{HasWord};
 ghost use Rattle.timbuk_lex.specs.declared.lexeme.TokenKind.TheVariants.{Word};
 ghost use Rattle.timbuk_grammar.specs.Grammar as grammar;
 ghost use Rattle.timbuk_reader.specs.Rows.{is_closed_word};
-ghost use Rattle.timbuk_reader.specs.Reading.{lexical_kind};
 ghost use Rattle.timbuk_reader.specs.View.{Shorter, closed, end_of, end_fault, state_of, sees, refusal};
 ghost use Rattle.timbuk_reader.specs.Reads.{Reads, Takes, IsMark, IsWordly, Stands, HasNoWord};
 
-use crate::fault::{LimitName, SpecError, SpecFault, SpecKind};
+use crate::fault::{LimitName, SpecError, SpecFault, SpecKind, lexical_kind};
 use crate::state::Reader;
 use ranked_terms::MAX_NAME;
 use timbuk_grammar::{Terminal, is_closed_word};
-use timbuk_lex::{Ending, LexFault, Lexeme, TokenKind};
+use timbuk_lex::{Ending, Lexeme, TokenKind};
 
 /// The bytes of a word, as a text.
 fn text_of<'a>(token: &Lexeme<'a>) -> &'a str
@@ -133,15 +132,4 @@ fn is_closed(token: &Lexeme) -> bool
     ensures { result ≡ is_closed_word token.now }
 {
     matches!(token.kind, TokenKind::Word) && is_closed_word(token.text.as_slice())
-}
-
-/// What is wrong with a text at a byte that begins no token.
-fn lexical_kind(why: LexFault) -> SpecKind
-    ensures { result ≡ lexical_kind why }
-{
-    match why {
-        LexFault::BadByte => SpecKind::BadByte,
-        LexFault::OpenComment => SpecKind::OpenComment,
-        LexFault::OpenText => SpecKind::OpenText,
-    }
 }

@@ -1,5 +1,9 @@
 //! Faults of an input text: what is wrong, and where.
+ghost use Rattle.std.specs.Prelude.{◌≡◌};
+ghost use Rattle.timbuk_reader.specs.Reading as reading;
+
 use std::alloc::AllocError;
+use timbuk_lex::LexFault;
 
 /// What is wrong with an input text. Where several of these fit one place, the first in this order is told.
 #[derive(Clone, Copy, Debug, Drop, PartialEq, Eq)]
@@ -93,5 +97,16 @@ impl From<AllocError> for SpecError {
 
     fn from(_: AllocError) -> SpecError {
         SpecError::Memory
+    }
+}
+
+/// What is wrong with a text at a byte that begins no token.
+pub(crate) fn lexical_kind(why: LexFault) -> SpecKind
+    ensures { result ≡ reading.lexical_kind why }
+{
+    match why {
+        LexFault::BadByte => SpecKind::BadByte,
+        LexFault::OpenComment => SpecKind::OpenComment,
+        LexFault::OpenText => SpecKind::OpenText,
     }
 }

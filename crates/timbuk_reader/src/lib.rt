@@ -19,6 +19,7 @@ mod token;
 pub use fault::{LimitName, SpecError, SpecFault, SpecKind};
 pub use laws::{faults_are_first, no_text_has_two_specs, texts_are_read};
 pub use reader::read_spec;
+pub use timbuk_lex::TokenKind;
 pub use token::{Token, TokenError, tokens};
 
 #[cfg(test)]

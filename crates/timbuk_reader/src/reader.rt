@@ -1,5 +1,5 @@
 //! The reader of input texts.
-ghost use Rattle.std.specs.Prelude.{◌≡◌, ◌<◌, ◌≤◌, ◌-◌, ◌^◌, ◌==◌, not, All, Err, IfOk, IsTrue, filter, length};
+ghost use Rattle.std.specs.Prelude.{◌≡◌, ◌⊎◌, ◌<◌, ◌≤◌, ◌-◌, ◌^◌, ◌==◌, not, All, Ok, Err, IfOk, IsTrue, filter, length};
 ghost use Rattle.std.specs.List.{range_with_len};
 ghost use Rattle.ta_core.specs.TreeAutomaton.{bare};
 ghost use Rattle.ta_core.specs.declared.spec.Spec.{Spec as Spelled};
@@ -29,6 +29,10 @@ pub fn read_spec(alloc: Global, bytes: &[u8]) -> Result<Spec, SpecError>
     ensures found { IfOk result (SpecText bytes.now) }
     ensures fault { (told : Told) → result ≡ Err (SpecError.Fault told) → SpecFaultAt bytes.now told }
     ensures none { (told : Told) (spec : Spelled) → result ≡ Err (SpecError.Fault told) → SpecText bytes.now spec → ⊥ }
+
+    // What the text spells, and its first fault, name the answer.
+    ensures that_one { (spec : Spelled) → SpecText bytes.now spec → (result ≡ Ok spec) ⊎ (result ≡ Err SpecError.Memory) }
+    ensures first { (told : Told) → SpecFaultAt bytes.now told → (result ≡ Err (SpecError.Fault told)) ⊎ (result ≡ Err SpecError.Memory) }
 {
     read_text(alloc, bytes)
 }

@@ -1,15 +1,14 @@
 //! The tokens of an input text, each with a text of its own.
-ghost use Rattle.std.specs.Prelude.{◌≡◌, ◌-◌, ◌<◌, ◌^◌, None, Some, Err, find, length, map, option_map, IfOk};
+ghost use Rattle.std.specs.Prelude.{◌≡◌, ◌-◌, ◌<◌, ◌^◌, All, None, Some, Err, find, length, map, option_map, IfOk};
 ghost use Rattle.timbuk_lex.specs.Lexing.{lexed};
-ghost use Rattle.timbuk_reader.specs.Reading as reading;
 ghost use Rattle.timbuk_reader.specs.Tokens as tokens;
 ghost use Rattle.timbuk_reader.specs.declared.fault.SpecFault.{SpecFault as Told};
 ghost use Rattle.timbuk_reader.specs.declared.token.TokenError.TheVariants.{Memory};
 
-use crate::fault::{LimitName, SpecFault, SpecKind};
+use crate::fault::{LimitName, SpecFault, SpecKind, lexical_kind};
 use ranked_terms::{MAX_NAME, Name, Seq};
 use std::alloc::{AllocError, Global};
-use timbuk_lex::{Ending, LexFault, Lexeme, TokenKind, lex_of};
+use timbuk_lex::{Ending, Lexeme, TokenKind, lex_of};
 
 /// A token of an input text: the bytes that begin at `start`.
 #[derive(Debug, Drop)]
@@ -66,17 +65,6 @@ fn is_long_word(lexeme: &Lexeme) -> bool
     matches!(lexeme.kind, TokenKind::Word) && lexeme.text.as_slice().len() > MAX_NAME
 }
 
-/// The kind of a fault of the lexer.
-fn lexical_kind(why: LexFault) -> SpecKind
-    ensures { result ≡ reading.lexical_kind why }
-{
-    match why {
-        LexFault::BadByte => SpecKind::BadByte,
-        LexFault::OpenComment => SpecKind::OpenComment,
-        LexFault::OpenText => SpecKind::OpenText,
-    }
-}
-
 /// The fault of the byte at which the lexer stopped. `None` exactly where it went to the end.
 fn ending_fault(ending: Ending) -> Option<SpecFault>
     ensures { result ≡ tokens.ending_fault ending }
@@ -113,11 +101,26 @@ fn first_fault(lexemes: &[Lexeme], ending: Ending) -> Option<SpecFault>
     }
 }
 
-/// The tokens of a text of fewer than 4,294,967,295 bytes. `Fault` exactly where a byte begins no token, a comment or a
-/// quoted text has no end, or a word has more than 255 bytes: the first of these, from the left.
+/// The same tokens, each with a text of its own. The only error is want of memory.
+fn tokens_of(alloc: Global, lexemes: &[Lexeme]) -> Result<Seq<Token>, AllocError>
+    ensures { IfOk result (λ all. all ≡ map tokens.token_of lexemes.now) }
+{
+    let mut all = Seq::new(alloc);
+    for lexeme in lexemes {
+        all.push(token_of(alloc, lexeme)?)?;
+    }
+    Ok(all)
+}
+
+/// The tokens of a text of fewer than 4,294,967,295 bytes, in order; the text of each is the slice of the bytes that begins at
+/// its `start`. `Fault` exactly where a byte begins no token, a comment or a quoted text has no end, or a word has more than
+/// 255 bytes: the first of these, from the left.
+#[tactic(auto, using(crate::proofs::TokenSlices::in_order_of))]
 pub fn tokens(alloc: Global, bytes: &[u8]) -> Result<Seq<Token>, TokenError>
     requires { length bytes.now < 2 ^ 32 - 1 }
     ensures tokens { IfOk result (λ all. all ≡ map tokens.token_of (lexed bytes.now).tokens) }
+    ensures slices { IfOk result (All (tokens.IsSlice bytes.now)) }
+    ensures in_order { IfOk result (tokens.InOrder 0) }
     ensures fine { IfOk result (λ _. tokens.token_fault bytes.now ≡ None) }
     ensures fault { (told : Told) → result ≡ Err (TokenError.Fault told) → tokens.token_fault bytes.now ≡ Some told }
 {
@@ -125,9 +128,5 @@ pub fn tokens(alloc: Global, bytes: &[u8]) -> Result<Seq<Token>, TokenError>
     if let Some(fault) = first_fault(lexed.tokens.as_slice(), lexed.ending) {
         return Err(TokenError::Fault(fault));
     }
-    let mut all = Seq::new(alloc);
-    for lexeme in lexed.tokens.as_slice() {
-        all.push(token_of(alloc, lexeme)?)?;
-    }
-    Ok(all)
+    Ok(tokens_of(alloc, lexed.tokens.as_slice())?)
 }

@@ -1,5 +1,5 @@
 use Rattle.timbuk_reader.proofs.FirstFaults.{faults_are_first}
-use Rattle.timbuk_reader.proofs.ReaderSpecLaws.{found_by_reading, none_by_fault}
+use Rattle.timbuk_reader.proofs.ReaderSpecLaws.{found_by_reading, none_by_fault, answer_by_spec, answer_by_fault}
 use Rattle.timbuk_reader.proofs.reader.read_spec.Goals as goal
 
 pub returns-clause-found : goal.returns-clause-found
@@ -10,3 +10,9 @@ returns-clause-fault c told e = (faults_are_first c.args.bytes.now told).0 (c.re
 
 pub returns-clause-none : goal.returns-clause-none
 returns-clause-none c told spec e h = none_by_fault c.args.bytes.now told spec (c.read_text.ensures.stops told e) h
+
+pub returns-clause-that_one : goal.returns-clause-that_one
+returns-clause-that_one c spec h = answer_by_spec c.args.bytes.now c.read_text.result c.read_text.ensures.read c.read_text.ensures.stops spec h
+
+pub returns-clause-first : goal.returns-clause-first
+returns-clause-first c told h = answer_by_fault c.args.bytes.now c.read_text.result c.read_text.ensures.read c.read_text.ensures.stops told h

@@ -1,4 +1,4 @@
-use Rattle.std.proofs.Common.{sym, ap, ◌∙◌, ◌==◌, true, false}
+use Rattle.std.proofs.Common.{sym, ap, ◌∙◌, ◌==◌}
 use Rattle.std.specs.List.{list_any}
 use Rattle.timbuk_reader.proofs.ReaderApproximation.{own_new, own_bound, own_there}
 use Rattle.timbuk_reader.proofs.approximation.StartedEntry.add_variable.Goals as goal

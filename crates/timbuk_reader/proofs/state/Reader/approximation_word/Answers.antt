@@ -1,4 +1,4 @@
-use Rattle.std.proofs.Common.{◌≡◌, ◌≢◌, ◌<◌, ◌≤◌, true, sym, ◌∙◌, arith}
+use Rattle.std.proofs.Common.{sym, ◌∙◌, arith}
 use Rattle.timbuk_reader.proofs.StepsApproximationSection.{early_stops, other_stops, second_stops, word_leads}
 use Rattle.timbuk_reader.proofs.state.Reader.approximation_word.Goals as goal
 use Rattle.timbuk_reader.proofs.state.Reader.approximation_word.Goals.{then-self-eq0-via-then-self-eq0, then-self-eq0-via-else-self-eq0+then-not-sees}

@@ -1,4 +1,4 @@
-use Rattle.std.proofs.Common.{◌≡◌, sym, ◌∙◌, arith}
+use Rattle.std.proofs.Common.{sym, ◌∙◌, arith}
 use Rattle.std.proofs.lemmas.Grind.{common_steps}
 use Rattle.timbuk_grammar.specs.Grammar.{some, entry, many}
 use Rattle.timbuk_reader.specs.Reads.{Stops}

@@ -1,7 +1,7 @@
-use Rattle.std.proofs.Common.{◌≡◌, ◌≤◌, ◌<◌, length, refl, sym, ap, subst, ◌∙◌, arith, Some}
+use Rattle.std.proofs.Common.{◌≡◌, ◌≤◌, ◌<◌, length, refl, sym, subst, ◌∙◌, arith, Some}
 use Rattle.std.specs.Option.{IsSome}
 use Rattle.std.proofs.lemmas.Grind.{common_steps}
-use Rattle.ranked_terms.specs.Names.{number_of, arity_of}
+use Rattle.ranked_terms.specs.Names.{number_of}
 use Rattle.timbuk_grammar.specs.Grammar.{name}
 use Rattle.timbuk_grammar.specs.declared.terminal.Place.TheVariants as place
 use Rattle.timbuk_grammar.specs.declared.terminal.Terminal.TheVariants as terminal

@@ -1,4 +1,4 @@
-use Rattle.std.proofs.Common.{sym, ap, ◌∙◌, arith}
+use Rattle.std.proofs.Common.{arith}
 use Rattle.std.proofs.lemmas.Grind.{common_steps}
 use Rattle.timbuk_reader.specs.ApproximationReads.{StopsLeaf}
 use Rattle.timbuk_reader.proofs.StepsApproximationNames.{leaf_reads, leaf_stops}

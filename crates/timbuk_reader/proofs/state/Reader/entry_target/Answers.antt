@@ -1,9 +1,10 @@
-use Rattle.std.proofs.Common.{sym, ap, ◌∙◌, arith}
+use Rattle.std.proofs.Common.{sym, ◌∙◌, arith}
 use Rattle.std.proofs.lemmas.Grind.{common_steps}
 use Rattle.timbuk_grammar.specs.declared.terminal.Place.TheVariants as place
 use Rattle.timbuk_reader.specs.ApproximationReads.{StopsName}
-use Rattle.timbuk_reader.proofs.StepsApproximationNames.{no_name_stops, target_unknown, target_reads, target_stops}
+use Rattle.timbuk_reader.proofs.StepsApproximationNames.{target_unknown, target_reads, target_stops}
 use Rattle.timbuk_reader.proofs.state.Reader.entry_target.Goals as goal
+use Rattle.timbuk_reader.proofs.StepsArguments.{no_name_stops}
 
 pub returns-in_err-name-clause-err : goal.returns-in_err-name-clause-err
 returns-in_err-name-clause-err c =

@@ -1,4 +1,3 @@
-use Rattle.std.proofs.Common.{◌∙◌}
 use Rattle.timbuk_reader.proofs.StepsApproximationRules.{at_leads}
 use Rattle.timbuk_reader.proofs.ReaderApproximation.{form_is}
 use Rattle.timbuk_reader.proofs.state.Reader.form.Goals as goal

@@ -1,11 +1,11 @@
 use Rattle.std.proofs.Common.{sym, ap, ◌∙◌, arith}
 use Rattle.std.proofs.lemmas.Grind.{common_steps}
-use Rattle.timbuk_grammar.specs.declared.terminal.Terminal.TheVariants as terminal
 use Rattle.timbuk_reader.specs.View.{state_of}
 use Rattle.timbuk_reader.specs.Meanings.{meant_by}
 use Rattle.timbuk_reader.specs.ApproximationReads.{StopsLeaf}
-use Rattle.timbuk_reader.proofs.StepsApproximationNames.{no_name_stops, crowded_leaf, unknown_leaf, state_leaf, no_leaf}
+use Rattle.timbuk_reader.proofs.StepsApproximationNames.{crowded_leaf, unknown_leaf, state_leaf, no_leaf}
 use Rattle.timbuk_reader.proofs.state.Reader.next_leaf.Goals as goal
+use Rattle.timbuk_reader.proofs.StepsArguments.{no_name_stops}
 
 pub returns-in_err-name-clause-err : goal.returns-in_err-name-clause-err
 returns-in_err-name-clause-err c =

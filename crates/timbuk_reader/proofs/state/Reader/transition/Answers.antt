@@ -10,15 +10,16 @@ use Rattle.timbuk_reader.specs.Reads.{Stops, Reads}
 use Rattle.timbuk_reader.specs.Patterns.{Advanced}
 use Rattle.timbuk_reader.specs.AutomatonReads.{head_arguments, target, headed, begun}
 use Rattle.timbuk_reader.proofs.Steps.{then_stops, later_stops, then_reads}
-use Rattle.timbuk_reader.proofs.StepsAutomaton.{closed_ready, no_name_stops, head_state_below, head_symbol_over, state_head_leads, state_head_stops, constant_leads, constant_stops, function_leads, unknown_head_stops, no_arguments}
+use Rattle.timbuk_reader.proofs.StepsAutomaton.{closed_ready, head_state_below, head_symbol_over, state_head_leads, state_head_stops, constant_leads, constant_stops, function_leads, unknown_head_stops, no_arguments}
 use Rattle.timbuk_reader.proofs.state.Reader.transition.Goals as goal
+use Rattle.timbuk_reader.proofs.StepsArguments.{no_name_stops}
 
 pub returns-in_err-name-clause-reads : goal.returns-in_err-name-clause-reads
 returns-in_err-name-clause-reads c =
     let r = c.args.self.now in
     let e = c.in_err-name.field-0.0 in
     let stops : Stops transition closed r e =
-    then_stops (name place.TransitionHead) (head_arguments then target) closed r e (no_name_stops place.TransitionHead closed r tt (closed_ready r) e c.in_err-name.ensures.err) in
+    then_stops (name place.TransitionHead) (head_arguments then target) closed r e (no_name_stops place.TransitionHead r e closed (closed_ready r) c.in_err-name.ensures.err) in
     grind (arith, common_steps)
 
 pub returns-in_err-leaf-in-State-clause-reads : goal.returns-in_err-leaf-in-State-clause-reads

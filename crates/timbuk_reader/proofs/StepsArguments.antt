@@ -1,48 +1,42 @@
--- One token in an approximation rule.
-use Rattle.std.proofs.Common.{◌≡◌, ◌≢◌, ℕ, zero, suc, ◌+◌, ◌<◌, ◌≤◌, length, arith, Bool, true, false, not, ◌&&◌, ◌||◌, ◌==◌, cond, List, [], ◌∷◌, ◌++◌, Option, Some, None, Ok, Err, Result, refl, ap, sym, ◌∙◌, subst}
-use Rattle.std.specs.Prelude.{option_map, nat_lt, nat_le, unwrap_or, is_none}
+-- The next token behind a name or among arguments, whatever declaration is open.
+use Rattle.std.proofs.Common.{◌≡◌, ◌<◌, ◌≤◌, length, arith, true, false, List, [], ◌∷◌, Option, Some, None, Err, refl, ap, sym, ◌∙◌}
+use Rattle.std.specs.Prelude.{nat_lt, nat_le, is_none}
 use Rattle.std.specs.List.{list_all}
 use Rattle.std.proofs.lemmas.Bool.Decides.{nat_tests}
-use Rattle.ranked_terms.specs.Names.{number_of, arity_of}
-use Rattle.ranked_terms.specs.declared.term.Shape.TheVariants as shape
 use Rattle.timbuk_lex.specs.declared.lexeme.Lexeme.{Lexeme}
 use Rattle.timbuk_lex.specs.declared.lex.Ending.{Ending}
 use Rattle.timbuk_lex.specs.declared.lex.Ending.TheVariants.{Whole, Stopped}
 use Rattle.timbuk_grammar.specs.declared.terminal.Place.{Place}
-use Rattle.timbuk_grammar.specs.declared.terminal.Place.TheVariants as place
 use Rattle.timbuk_grammar.specs.declared.terminal.Terminal.{Terminal}
 use Rattle.timbuk_grammar.specs.declared.terminal.Terminal.TheVariants as terminal
 use Rattle.timbuk_grammar.specs.Matching.{matches}
-use Rattle.timbuk_grammar.specs.Grammar.{Part, one, ◌then◌, maybe, many, arguments, name}
-use Rattle.timbuk_grammar.specs.Next.{empties, Choice, choices, choice_of}
+use Rattle.timbuk_grammar.specs.Grammar.{Part, one, ◌then◌, many, arguments, name}
+use Rattle.timbuk_grammar.specs.Next.{empties, choice_of}
 use Rattle.timbuk_grammar.proofs.Differ as differ
-use Rattle.timbuk_reader.specs.declared.fault.SpecKind.{SpecKind}
 use Rattle.timbuk_reader.specs.declared.fault.SpecKind.TheVariants as kind
 use Rattle.timbuk_reader.specs.declared.fault.LimitName.TheVariants as limit
-use Rattle.timbuk_reader.specs.Declarations.{Text, Declared, Application, any, leaf, constant, function, Meaning, unknown, a_variable, a_state, a_symbol, meaning, has, named, closes, ends, adds}
-use Rattle.timbuk_reader.specs.Rows.{or, when, row, is_closed_word, wrong_arity, wrong_count, unexpected_after, expected, at_terminal, passed, misnamed, too_deep, one_too_many, is_unknown, end_row}
-use Rattle.timbuk_reader.specs.Reading.{Outcome, End, outcome, unless, behind, added, terminal_of, ends_by, end_by}
+use Rattle.timbuk_reader.specs.Declarations.{Declared, Application, any, leaf, constant, function, closes, adds}
+use Rattle.timbuk_reader.specs.Rows.{row, wrong_arity, wrong_count, expected, passed, misnamed, end_row}
+use Rattle.timbuk_reader.specs.Reading.{End, outcome, unless, behind, added, terminal_of, ends_by}
 use Rattle.timbuk_reader.specs.View.{refusal_at, end_fault, sees}
-use Rattle.timbuk_reader.specs.AutomatonReads.{miscounts}
-use Rattle.timbuk_reader.specs.ApproximationReads.{has_room}
+use Rattle.timbuk_reader.specs.declared.fault.SpecError.{SpecError}
+use Rattle.timbuk_reader.specs.declared.state.Reader.{Reader}
+use Rattle.timbuk_reader.specs.View.{Open, declared, end_of, settled, as_error}
+use Rattle.timbuk_reader.specs.Reads.{Took, Stops, HasNoWord, missed, long}
+use Rattle.timbuk_reader.specs.AutomatonReads.{miscounts, IsReady}
+use Rattle.std.proofs.Math.Bool.{and-false, or-true}
 use Rattle.timbuk_reader.proofs.Steps.{Front, choice_unseen, one_front, then_head, alike, both_alike, maybe_take, many_take, many_skip}
 use Rattle.timbuk_reader.proofs.StepsTokens.{use_row, Quiet, not_closed, row_other, step_on, step_fault, step_wrong, step_unexpected, step_end, mark_row, mark_adds}
+use Rattle.timbuk_reader.proofs.StepsPatterns.{name_quiet}
+use Rattle.timbuk_reader.proofs.StepsTokens.{declared_same, long_row}
 
 -- ---- a token by what is open
 
-pub and_false : (b : Bool) → (b && false) ≡ false
-and_false true = refl
-and_false false = refl
-
-or_true : (b : Bool) → (b || true) ≡ true
-or_true true = refl
-or_true false = refl
-
-arity_by : (d : Declared) (x : Lexeme) → d.last ≡ any → wrong_count d.applications x ≡ false → wrong_arity d x ≡ false
+pub arity_by : (d : Declared) (x : Lexeme) → d.last ≡ any → wrong_count d.applications x ≡ false → wrong_arity d x ≡ false
 unfolding wrong_arity
 arity_by d x l c = rw (l, c) refl
 
-quiet_by : (d : Declared) (x : Lexeme) → d.last ≡ any → wrong_count d.applications x ≡ false → Quiet d x
+pub quiet_by : (d : Declared) (x : Lexeme) → d.last ≡ any → wrong_count d.applications x ≡ false → Quiet d x
 quiet_by d x l c = record { arity = arity_by d x l c; leaf = rw l refl }
 
 -- nothing that is expected stands next, and no number of arguments is wrong
@@ -50,6 +44,33 @@ pub missed_here : (ps : List Part) (t : Terminal) (qs : List Part) (end : End) (
     → outcome end ps d xs ≡ Err (refusal_at kind.Expected end xs)
 missed_here ps t qs end d [] h e l c = step_end ps end d h.end
 missed_here ps t qs end d (x ∷ xs) h e l c = step_unexpected ps end d x xs (choice_unseen ps t qs x h e) (arity_by d x l c)
+
+-- nothing is open that counts arguments
+no_counts : (xs : List Lexeme) → miscounts [] xs ≡ false
+no_counts [] = refl
+no_counts (x ∷ xs) = refl
+
+pub calm_ready : (o : Open) (r : Reader) → o.applications ≡ [] → o.last ≡ any → IsReady o r
+calm_ready o r e f = record { last = f; count = ap (λ a. miscounts a r.tokens.now) e ∙ no_counts r.tokens.now }
+
+-- what is read where a token was taken
+pub took_run : (t : Terminal) (r m : Reader) (o : Open) (ps : List Part) → (k : Took t r m) → outcome (end_of r) ps (declared o r) r.tokens.now ≡ outcome (end_of m) ps (declared o m) (k.token ∷ m.tokens.now)
+took_run t r m o ps k = λ i. outcome (sym k.end i) ps (sym (declared_same o r m k.state k.bound) i) (k.tokens i)
+
+-- no word stands there, or a long one
+pub no_name_stops : (p : Place) (r : Reader) (e : SpecError) (o : Open) → IsReady o r → HasNoWord (terminal.Named p) r e → Stops (name p) o r e
+no_name_stops p r e o ready (missed m) = record {
+  by = λ ne ps.
+      ap (λ z. as_error (settled z)) (missed_here (name p ∷ ps) (terminal.Named p) ps (end_of r) (declared o r) r.tokens.now (one_front (terminal.Named p) ps) m.unseen ready.last ready.count) ∙ ap Err (sym m.told);
+}
+no_name_stops p r e o ready (long l told) = record {
+  by = λ ne ps.
+      let d = declared o r in
+      let fits = row_other (terminal.Named p) d l.token tt l.matched (name_quiet p l.token l.matched d ready.last) ∙ long_row (terminal.Named p) l.token.text d tt l.long in
+      ap (λ z. as_error (settled z)) (ap (outcome (end_of r) (name p ∷ ps) d) l.tokens
+      ∙ step_fault (name p ∷ ps) (terminal.Named p) ps (end_of r) d l.token l.rest (kind.Limit limit.NameBytes) (one_front (terminal.Named p) ps) l.matched fits
+      ∙ ap (λ xs. Err (refusal_at (kind.Limit limit.NameBytes) (end_of r) xs)) (sym l.tokens)) ∙ ap Err (sym told);
+}
 
 -- ---- a `(` behind a name
 
@@ -60,7 +81,7 @@ paren_count (a ∷ outer) x e = rw (differ.apart terminal.OpenParen terminal.Clo
 
 applied_row : (t : Option Terminal) (d : Declared) (x : Lexeme) → d.last ≡ leaf → matches terminal.OpenParen x ≡ true → row t d x ≡ Some kind.Expected
 unfolding row expected wrong_arity
-applied_row t d x l e = rw (not_closed terminal.OpenParen x e, l, paren_count d.applications x e, e, or_true (is_none t)) refl
+applied_row t d x l e = rw (not_closed terminal.OpenParen x e, l, paren_count d.applications x e, e, or-true (is_none t)) refl
 
 -- a `(` behind a variable or a state
 pub leaf_applied : (ps : List Part) (end : End) (d : Declared) (xs : List Lexeme) → d.last ≡ leaf → sees terminal.OpenParen xs ≡ true → outcome end ps d xs ≡ Err (refusal_at kind.Expected end xs)
@@ -80,7 +101,7 @@ constant_applied ps end d (x ∷ xs) l e = step_wrong ps end d x xs (rw (l, e) r
 
 function_end : (ending : Ending) (ps : List Part) (end : End) (d : Declared) → d.last ≡ function → ends_by ending end ps d ≡ Err (end_fault ending end)
 unfolding end_row
-function_end Whole ps end d l = rw (l, and_false (list_all empties ps)) refl
+function_end Whole ps end d l = rw (l, and-false (list_all empties ps)) refl
 function_end (Stopped why line column) ps end d l = refl
 
 -- no `(` behind a symbol of another arity
@@ -88,6 +109,11 @@ pub function_bare : (ps : List Part) (end : End) (d : Declared) (xs : List Lexem
 unfolding wrong_arity
 function_bare ps end d [] l e = function_end end.ending ps end d l
 function_bare ps end d (x ∷ xs) l e = step_wrong ps end d x xs (rw (l, e) refl)
+
+-- an argument may stand there
+pub ready_count : (a : Application) (outer : List Application) (xs : List Lexeme) → length a.args < a.arity → sees terminal.CloseParen xs ≡ false → miscounts (a ∷ outer) xs ≡ false
+ready_count a outer [] less e = refl
+ready_count a outer (x ∷ xs) less e = let few : nat_le a.arity (length a.args) ≡ false = grind (arith, nat_tests) in rw (e, few) (and-false (matches terminal.Comma x))
 
 -- what follows an argument
 abbrev pub more_of : Part → Part
