@@ -7,6 +7,7 @@ use std::alloc::{AllocError, Global};
 use std::test::Fail;
 use tim_io::{HonestShelf, HonestSink, MemShelf, MemSink};
 
+mod examples;
 mod faults;
 mod forbidden;
 mod verdicts;

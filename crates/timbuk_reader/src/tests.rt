@@ -1,6 +1,6 @@
 //! What is read of texts, where it tells most: numbers, orders and what counts once. Worked out by hand.
 use crate::{LimitName, SpecError, SpecKind, TokenError, read_spec, tokens};
-use ranked_terms::{Seq, Shape};
+use ranked_terms::{Pattern, Seq, Shape};
 use std::alloc::{AllocError, Global};
 use std::test::Fail;
 use ta_core::{Automaton, Spec};
@@ -28,7 +28,7 @@ fn spec_of(alloc: Global, text: &str) -> Result<Spec, SpecError> {
 fn automata_are_read(rt: HostRuntime) -> Result<(), Fail> {
     let text = "(* two automata *) Ops f:02 a:0
         Automaton One States q:0 r p:0 Description q: \"(* no comment\" r: \"\" Final States r q r
-        Prior f(r,q) -> p p -> q Transitions a -> q f(q,r) -> r p -> p q -> p f(q,r) -> r a -> p
+        Prior f(r,q) -> p p -> q Transitions a -> q f(q,r) -> r p -> p q -> p f(q,r) -> r p -> q a -> p
         TRS R Automaton Two States r Final States Transitions a -> r";
     let Ok(spec) = spec_of(rt.alloc(), text) else {
         panic!(rt; "refused");
@@ -43,6 +43,42 @@ fn automata_are_read(rt: HostRuntime) -> Result<(), Fail> {
     assert_eq!(rt; spec.forbidden.next(), 1);
     assert_eq!(rt; told(rt.alloc(), &spec.forbidden)?.as_str(), "1[]>0 ");
     assert!(rt; !spec.approximated);
+    Ok(())
+}
+
+/// Lists of one letter, each appended to a list of the other; a list with the letters in the other order is forbidden.
+const APPEND: &str = "Ops app:2 nil:0 cons:2 a:0 b:0 Vars x y z TRS Append app(nil,x) -> x app(cons(x,y),z) -> cons(x,app(y,z))
+    Automaton Init States q0:0 qla:0 qlb:0 qa:0 qb:0 Description q0: \"the call\" qla: \"lists of a\" Final States q0
+    Transitions app(qla,qlb) -> q0 nil -> qla cons(qa,qla) -> qla nil -> qlb cons(qb,qlb) -> qlb a -> qa b -> qb
+    Automaton Bad States any has bad fa fb Final States bad
+    Transitions nil -> any cons(fa,any) -> any cons(fb,any) -> any cons(fa,any) -> has cons(fa,has) -> has cons(fb,has) -> has
+    cons(fb,has) -> bad cons(fa,bad) -> bad cons(fb,bad) -> bad a -> fa b -> fb";
+
+/// Epsilon transitions in a circle.
+const CIRCLE: &str = "Ops a:0 b:0 Automaton Loop States p q Final States q Transitions a -> p p -> q q -> p
+    Automaton Bad States p0 Final States p0 Transitions b -> p0";
+
+#[test]
+fn the_automata_of_the_examples_are_read(rt: HostRuntime) -> Result<(), Fail> {
+    let rows: [(&str, &str, &[(u32, u32)], &[u32], &str); 2] = [
+        (
+            APPEND,
+            "0[1, 2]>0 1[]>1 1[]>2 2[3, 1]>1 2[4, 2]>2 3[]>3 4[]>4 ",
+            &[],
+            &[0],
+            "1[]>0 2[3, 0]>0 2[3, 0]>1 2[3, 1]>1 2[3, 2]>2 2[4, 0]>0 2[4, 1]>1 2[4, 1]>2 2[4, 2]>2 3[]>3 4[]>4 ",
+        ),
+        (CIRCLE, "0[]>0 ", &[(0, 1), (1, 0)], &[1], "1[]>0 "),
+    ];
+    for (text, initial, eps, finals, forbidden) in rows {
+        let Ok(spec) = spec_of(rt.alloc(), text) else {
+            panic!(rt; "refused");
+        };
+        assert_eq!(rt; told(rt.alloc(), &spec.initial)?.as_str(), initial);
+        assert_eq!(rt; spec.initial.eps(), eps);
+        assert_eq!(rt; spec.initial.finals(), finals);
+        assert_eq!(rt; told(rt.alloc(), &spec.forbidden)?.as_str(), forbidden);
+    }
     Ok(())
 }
 
@@ -80,8 +116,17 @@ fn approximations_are_read(rt: HostRuntime) -> Result<(), Fail> {
     assert_eq!(rt; entries[1].target, 0);
     assert_eq!(rt; entries[2].whole, Shape::State(3));
     assert_eq!(rt; entries[2].at, Shape::State(1));
+    assert_eq!(rt; entries[2].node, Shape::App(0, Seq::new(alloc)));
     assert_eq!(rt; entries[2].target, 3);
     Ok(())
+}
+
+/// The symbol 1 applied to two patterns.
+fn both(alloc: Global, left: Pattern, right: Pattern) -> Result<Pattern, AllocError> {
+    let mut args = Seq::new(alloc);
+    args.push(left)?;
+    args.push(right)?;
+    Ok(Pattern::App(1, args))
 }
 
 #[test]
@@ -91,13 +136,26 @@ fn rules_and_equations_are_read(rt: HostRuntime) -> Result<(), Fail> {
     let Ok(spec) = spec_of(rt.alloc(), text) else {
         panic!(rt; "refused");
     };
+    assert_eq!(rt; spec.signature.len(), 2);
+    assert_eq!(rt; spec.signature.name(1), Some("f"));
+    assert_eq!(rt; spec.signature.arity(1), Some(2));
+    assert_eq!(rt; spec.vars.as_slice().len(), 3);
+    assert_eq!(rt; spec.vars.as_slice()[2].as_slice(), b"z".as_slice());
     let rules = spec.rules.as_slice();
     assert_eq!(rt; rules.len(), 2);
+    let inner = both(rt.alloc(), Pattern::Var(2), Pattern::Var(0))?;
+    let left = both(rt.alloc(), Pattern::Var(1), inner)?;
+    assert_eq!(rt; rules[0].left(), &left);
+    let right = both(rt.alloc(), Pattern::Var(0), Pattern::Var(0))?;
+    assert_eq!(rt; rules[0].right(), &right);
     assert_eq!(rt; rules[0].vars(), [1, 2, 0].as_slice());
     assert_eq!(rt; rules[1].vars(), [].as_slice());
     let equations = spec.equations.as_slice();
     assert_eq!(rt; equations.len(), 2);
     assert_eq!(rt; equations[0].vars(), [2, 0, 1].as_slice());
+    let left = both(rt.alloc(), Pattern::Var(2), Pattern::Var(0))?;
+    assert_eq!(rt; equations[0].left(), &left);
+    assert_eq!(rt; equations[1].right(), &Pattern::Var(1));
     assert_eq!(rt; equations[1].vars(), [1].as_slice());
     assert_eq!(rt; spec.initial.next(), 0);
     assert_eq!(rt; spec.forbidden.next(), 0);

@@ -6,7 +6,7 @@ use std::test::Fail;
 
 #[test]
 fn faults_are_told_with_their_kind_and_place(rt: HostRuntime) -> Result<(), Fail> {
-    let rows: [(&str, &str, &str); 67] = [
+    let rows: [(&str, &str, &str); 79] = [
         ("a dash alone", "Ops a:0 -", "line 1 column 9: BadByte"),
         (
             "a byte that begins no token",
@@ -17,6 +17,11 @@ fn faults_are_told_with_their_kind_and_place(rt: HostRuntime) -> Result<(), Fail
             "a byte behind a symbol with arguments",
             "Ops f:2 g:1 a:0 Vars x y TRS R g -",
             "line 1 column 34: BadByte",
+        ),
+        (
+            "nothing behind such a byte is looked at",
+            "Ops a:0 ; Set",
+            "line 1 column 9: BadByte",
         ),
         (
             "a comment without an end",
@@ -110,6 +115,26 @@ fn faults_are_told_with_their_kind_and_place(rt: HostRuntime) -> Result<(), Fail
             "line 1 column 33: WrongArity",
         ),
         (
+            "a symbol without its arguments on a line of its own",
+            "Ops f:1\nVars x\nTRS R\nf -> x\n",
+            "line 4 column 3: WrongArity",
+        ),
+        (
+            "arguments of a constant in a transition",
+            "Ops f:2 g:1 a:0 Vars x y Automaton A States q r Final States q Transitions a(q) -> q",
+            "line 1 column 77: WrongArity",
+        ),
+        (
+            "a symbol without its arguments in an entry",
+            "Ops f:2 g:1 a:0 Vars x y Automaton A States q r Final States q Transitions Approximation N States k Rules [x -> q] -> [g -> k]",
+            "line 1 column 122: WrongArity",
+        ),
+        (
+            "arguments of a constant in an entry",
+            "Ops f:2 g:1 a:0 Vars x y Automaton A States q r Final States q Transitions Approximation N States k Rules [x -> q] -> [a(q) -> k]",
+            "line 1 column 121: WrongArity",
+        ),
+        (
             "a transition without arguments",
             "Ops f:2 g:1 a:0 Vars x y Automaton A States q r Final States q Transitions g -> q",
             "line 1 column 78: WrongArity",
@@ -125,6 +150,16 @@ fn faults_are_told_with_their_kind_and_place(rt: HostRuntime) -> Result<(), Fail
             "line 1 column 79: WrongArity",
         ),
         ("one byte that is no text", ")", "line 1 column 1: Expected"),
+        (
+            "prior transitions without the others",
+            "Ops f:2 g:1 a:0 Vars x y Automaton A States q r Final States q Prior a -> q TRS R",
+            "line 1 column 77: Expected",
+        ),
+        (
+            "arguments of a state in an approximation rule",
+            "Ops f:2 g:1 a:0 Vars x y Automaton A States q r Final States q Transitions Approximation N States k Rules [q(q) -> q]",
+            "line 1 column 109: Expected",
+        ),
         (
             "an arity that is no number",
             "Ops f:x",
@@ -231,6 +266,21 @@ fn faults_are_told_with_their_kind_and_place(rt: HostRuntime) -> Result<(), Fail
             "line 1 column 32: UnknownName",
         ),
         (
+            "an unknown symbol with an argument",
+            "Ops f:1\nVars x\nTRS R\ng(x) -> x\n",
+            "line 4 column 1: UnknownName",
+        ),
+        (
+            "an unknown name in an equation",
+            "Ops f:2 g:1 a:0 Vars x y Equations E Rules h = x",
+            "line 1 column 44: UnknownName",
+        ),
+        (
+            "a nested entry",
+            "Ops f:2 g:1 a:0 Vars x y Automaton A States q r Final States q Transitions Approximation N States k Rules [g(x) -> y] -> [g(g(x)) -> k]",
+            "line 1 column 125: UnknownName",
+        ),
+        (
             "a state in a rule",
             "Ops f:2 g:1 a:0 Vars x y Automaton A States q r Final States q Transitions TRS R g(q) -> a",
             "line 1 column 84: UnknownName",
@@ -243,6 +293,11 @@ fn faults_are_told_with_their_kind_and_place(rt: HostRuntime) -> Result<(), Fail
         (
             "a symbol for a target",
             "Ops f:2 g:1 a:0 Vars x y Automaton A States q r Final States q Transitions a -> a",
+            "line 1 column 81: UnknownName",
+        ),
+        (
+            "a state of the approximation, before it is declared",
+            "Ops f:2 g:1 a:0 Vars x y Automaton A States q r Final States q Transitions a -> k Approximation N States k Rules",
             "line 1 column 81: UnknownName",
         ),
         (
@@ -261,7 +316,7 @@ fn faults_are_told_with_their_kind_and_place(rt: HostRuntime) -> Result<(), Fail
             "line 1 column 123: UnknownName",
         ),
         (
-            "a nested entry",
+            "a symbol for an argument of an entry",
             "Ops f:2 g:1 a:0 Vars x y Automaton A States q r Final States q Transitions Approximation N States k Rules [g(x) -> y] -> [g(a) -> k]",
             "line 1 column 125: UnknownName",
         ),
@@ -273,6 +328,11 @@ fn faults_are_told_with_their_kind_and_place(rt: HostRuntime) -> Result<(), Fail
         (
             "a symbol twice",
             "Ops a:0 a:0",
+            "line 1 column 9: DoubleName",
+        ),
+        (
+            "a double name in front of an open comment",
+            "Ops a:0 a:0 (* x",
             "line 1 column 9: DoubleName",
         ),
         (
@@ -311,7 +371,7 @@ fn faults_are_told_with_their_kind_and_place(rt: HostRuntime) -> Result<(), Fail
             "line 1 column 39: VariableLeft",
         ),
         (
-            "a variable twice",
+            "a variable twice in a left side",
             "Ops f:2 a:0\nVars x\nTRS R\nf(x,x) -> a",
             "line 4 column 5: NotLeftLinear",
         ),
@@ -337,6 +397,12 @@ fn faults_are_told_with_their_kind_and_place(rt: HostRuntime) -> Result<(), Fail
         assert_eq!(rt; status, Status::BadSpec, "{shows}");
         assert_eq!(rt; sink.bytes(), told.as_bytes(), "{shows}");
     }
+    for (text, fault) in past_limits(rt.alloc())?.iter() {
+        let told = format!(in rt.alloc(); "Bad specification {fault}\n")?;
+        let (status, sink) = complete(rt.alloc(), text.as_bytes())?;
+        assert_eq!(rt; status, Status::BadSpec, "{fault}");
+        assert_eq!(rt; sink.bytes(), told.as_bytes(), "{fault}");
+    }
     Ok(())
 }
 
@@ -356,25 +422,58 @@ fn numbered(
     Ok(text)
 }
 
-/// The head of a text, and the same line so often.
-fn repeated(alloc: Global, head: &str, line: &str, count: usize) -> Result<String, AllocError> {
+/// The head of a text, and the same piece so often.
+fn many(alloc: Global, head: &str, piece: &str, count: usize) -> Result<String, AllocError> {
     let mut text = String::from_str(alloc, head)?;
     for _ in 0..count {
-        text.push_str("\n")?;
-        text.push_str(line)?;
+        text.push_str(piece)?;
     }
     Ok(text)
 }
 
-#[test]
-fn limits_are_told_at_the_first_token_past_them(rt: HostRuntime) -> Result<(), Fail> {
-    let alloc = rt.alloc();
-    let variables = "v0 v1 v2 v3 v4 v5 v6 v7 v8 v9 v10 v11 v12 v13 v14 v15 v16";
-    let entries =
-        "Ops a:0 Automaton A States q Final States Transitions Approximation N States Rules [a -> q] -> [";
-    let rows = [
+/// An automaton of one state, for the end of a text.
+const AUTOMATON: &str = " Automaton A States q Final States q Transitions a -> q";
+
+/// Symbols, and seventeen variables.
+const SEVENTEEN: &str =
+    "Ops a:0 f:2 h:16 Vars v0 v1 v2 v3 v4 v5 v6 v7 v8 v9 v10 v11 v12 v13 v14 v15 v16";
+
+/// A term of sixteen of these.
+const SIXTEEN: &str = "h(v0,v1,v2,v3,v4,v5,v6,v7,v8,v9,v10,v11,v12,v13,v14,v15)";
+
+/// A text up to its entries.
+const ENTRIES: &str =
+    "Ops a:0 Automaton A States q Final States Transitions Approximation N States Rules [a -> q] -> [";
+
+/// Texts of which a token passes a limit, some with what else would fit there, and their faults.
+fn past_limits(alloc: Global) -> Result<Vec<(String, &'static str)>, AllocError> {
+    let symbols = numbered(alloc, "Ops", "s", ":0", 4096)?;
+    let states = numbered(alloc, "Automaton A States", "q", "", 16384)?;
+    let rules = many(alloc, "Ops a:0 TRS R", "\na -> a", 4096)?;
+    let long = many(alloc, "", "b", 256)?;
+    let rows = vec![in alloc;
         (
-            numbered(alloc, "Ops", "s", ":0", 4097)?,
+            format!(in alloc; "Ops\n{long}")?,
+            "line 2 column 1: Limit name-bytes 255",
+        ),
+        (
+            format!(in alloc; "{symbols}\n{long}")?,
+            "line 4098 column 1: Limit name-bytes 255",
+        ),
+        (
+            many(alloc, "Ops f:", "1", 256)?,
+            "line 1 column 7: Limit name-bytes 255",
+        ),
+        (
+            format!(in alloc; "Ops f:1 TRS R f {long}")?,
+            "line 1 column 17: WrongArity",
+        ),
+        (
+            format!(in alloc; "{symbols}\nt:0")?,
+            "line 4098 column 1: Limit symbols 4096",
+        ),
+        (
+            format!(in alloc; "{symbols}\ns0:0")?,
             "line 4098 column 1: Limit symbols 4096",
         ),
         (
@@ -382,88 +481,81 @@ fn limits_are_told_at_the_first_token_past_them(rt: HostRuntime) -> Result<(), F
             "line 1026 column 1: Limit declared 1024",
         ),
         (
-            numbered(alloc, "Automaton A States", "q", "", 16385)?,
-            "line 16386 column 1: Limit states 16384",
-        ),
-        (
-            numbered(
-                alloc,
-                format!(in alloc; "Ops f:2 Vars {variables} TRS R")?.as_str(),
-                "f(v",
-                ",",
-                17,
-            )?,
-            "line 18 column 3: Limit variables 16",
-        ),
-        (
-            repeated(alloc, "Ops g:1 TRS R", "g(", 101)?,
+            many(alloc, "Ops g:1 TRS R", "\ng(", 101)?,
             "line 102 column 1: Limit nesting 100",
         ),
         (
-            repeated(alloc, "Ops a:0 TRS R", "a -> a", 4097)?,
+            format!(in alloc; "{SEVENTEEN} TRS R f({SIXTEEN},\nv16)")?,
+            "line 2 column 1: Limit variables 16",
+        ),
+        (
+            format!(in alloc; "{SEVENTEEN} TRS R {SIXTEEN} ->\nv16")?,
+            "line 2 column 1: Limit variables 16",
+        ),
+        (
+            format!(in alloc; "{SEVENTEEN} Equations E Rules {SIXTEEN} =\nv16")?,
+            "line 2 column 1: Limit variables 16",
+        ),
+        (
+            format!(in alloc; "{SEVENTEEN} {AUTOMATON} Approximation N States Rules [{SIXTEEN} -> q] -> [f(v0,\nv16)")?,
+            "line 2 column 1: Limit variables 16",
+        ),
+        (
+            format!(in alloc; "{rules}\na -> a")?,
             "line 4098 column 1: Limit rules 4096",
         ),
         (
-            repeated(alloc, "Ops a:0 Equations E Rules", "a = a", 1025)?,
+            format!(in alloc; "{rules}\nz -> a")?,
+            "line 4098 column 1: Limit rules 4096",
+        ),
+        (
+            many(alloc, "Ops a:0 Equations E Rules", "\na = a", 1025)?,
             "line 1026 column 1: Limit equations 1024",
         ),
         (
-            repeated(alloc, entries, "a -> q", 1025)?,
+            many(alloc, ENTRIES, "\na -> q", 1025)?,
             "line 1026 column 1: Limit entries 1024",
         ),
-    ];
-    for (text, fault) in rows.iter() {
-        let told = format!(in alloc; "Bad specification {fault}\n")?;
-        let (status, sink) = complete(alloc, text.as_bytes())?;
-        assert_eq!(rt; status, Status::BadSpec, "{fault}");
-        assert_eq!(rt; sink.bytes(), told.as_bytes(), "{fault}");
-    }
-    Ok(())
+        (
+            format!(in alloc; "{states}\np")?,
+            "line 16386 column 1: Limit states 16384",
+        ),
+        (
+            format!(in alloc; "{states}\nFinal States Transitions Approximation N States\nk")?,
+            "line 16387 column 1: Limit states 16384",
+        ),
+    ]?;
+    Ok(rows)
 }
-
-#[test]
-fn a_name_has_at_most_255_bytes(rt: HostRuntime) -> Result<(), Fail> {
-    let alloc = rt.alloc();
-    for (count, fault) in [
-        (255, "line 2 column 256: Expected"),
-        (256, "line 2 column 1: Limit name-bytes 255"),
-    ] {
-        let mut text = String::from_str(alloc, "Ops\n")?;
-        for _ in 0..count {
-            text.push_str("a")?;
-        }
-        let told = format!(in alloc; "Bad specification {fault}\n")?;
-        let (status, sink) = complete(alloc, text.as_bytes())?;
-        assert_eq!(rt; status, Status::BadSpec, "{count} bytes");
-        assert_eq!(rt; sink.bytes(), told.as_bytes(), "{count} bytes");
-    }
-    Ok(())
-}
-
-/// An automaton of one state, for the end of a text.
-const AUTOMATON: &str = " Automaton A States q Final States q Transitions a -> q";
 
 #[test]
 fn texts_at_the_limits_are_read(rt: HostRuntime) -> Result<(), Fail> {
     let alloc = rt.alloc();
-    let variables = "v0 v1 v2 v3 v4 v5 v6 v7 v8 v9 v10 v11 v12 v13 v14 v15";
-    let sixteen = "h(v0,v1,v2,v3,v4,v5,v6,v7,v8,v9,v10,v11,v12,v13,v14,v15) -> a";
-    let mut deep = repeated(alloc, "Ops a:0 g:1 TRS R", "g(", 100)?;
-    deep.push_str("a")?;
-    for _ in 0..100 {
-        deep.push_str(")")?;
-    }
-    deep.push_str(" -> a")?;
+    let deep = many(alloc, "Ops a:0 g:1 TRS R ", "g(", 100)?;
+    let closing = many(alloc, "a", ")", 100)?;
+    let long = many(alloc, "", "b", 255)?;
+    let symbols = numbered(alloc, "Ops a:0", "s", ":0", 4095)?;
+    let variables = numbered(alloc, "Ops a:0 Vars", "v", "", 1024)?;
+    let rules = many(alloc, "Ops a:0 TRS R", "\na -> a", 4096)?;
+    let equations = many(alloc, "Ops a:0 Equations E Rules", "\na = a", 1024)?;
+    let entries = many(alloc, ENTRIES, "\na -> q", 1024)?;
+    let states = numbered(alloc, "Automaton A States", "q", "", 16384)?;
     let texts = [
-        repeated(alloc, "Ops a:0 TRS R", "a -> a", 4096)?,
-        repeated(alloc, "Ops a:0 Equations E Rules", "a = a", 1024)?,
-        format!(in alloc; "Ops a:0 h:16 Vars {variables} TRS R {sixteen}")?,
-        deep,
+        format!(in alloc; "{symbols}{AUTOMATON}")?,
+        format!(in alloc; "{variables}{AUTOMATON}")?,
+        format!(in alloc; "Ops a:0 {long}:0{AUTOMATON}")?,
+        format!(in alloc; "Ops a:0 h:016{AUTOMATON}")?,
+        format!(in alloc; "{rules}{AUTOMATON}")?,
+        format!(in alloc; "{equations}{AUTOMATON}")?,
+        format!(in alloc; "{SEVENTEEN} TRS R {SIXTEEN} -> a {AUTOMATON}")?,
+        format!(in alloc; "{deep}{closing} -> a {AUTOMATON}")?,
+        format!(in alloc; "{entries}]")?,
+        format!(in alloc; "{states} Final States Transitions")?,
     ];
     for text in texts.iter() {
-        let whole = format!(in alloc; "{text}{AUTOMATON}")?;
-        let (status, _) = complete(alloc, whole.as_bytes())?;
+        let (status, sink) = complete(alloc, text.as_bytes())?;
         assert_eq!(rt; status, Status::Unreachable);
+        assert_eq!(rt; sink.bytes(), b"Verdict unreachable\n".as_slice());
     }
     Ok(())
 }

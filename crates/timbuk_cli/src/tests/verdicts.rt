@@ -19,7 +19,7 @@ pub(super) fn complete(alloc: Global, file: &[u8]) -> Result<(Status, MemSink), 
 
 #[test]
 fn closed_automata_settle_reachability(rt: HostRuntime) -> Result<(), Fail> {
-    let texts: [(&str, &[u8]); 8] = [
+    let texts: [(&str, &[u8]); 10] = [
         (
             "even numbers, where two successors go away",
             b"Ops zero:0 s:1 Vars x TRS R s(s(x)) -> x Automaton Even States q0 q1 Final States q0
@@ -52,6 +52,14 @@ fn closed_automata_settle_reachability(rt: HostRuntime) -> Result<(), Fail> {
             "a right side that is a variable",
             b"Ops a:0 f:2 Vars x y TRS R f(x,y) -> x Automaton A States q0 Final States q0
               Transitions a -> q0 f(q0,q0) -> q0",
+        ),
+        (
+            "names of all kinds alike, each in its places",
+            b"Ops a:0 TRS a a -> a Automaton q States q Final States q Transitions a -> q",
+        ),
+        (
+            "transitions under Prior",
+            b"Ops a:0 b:0 TRS R a -> b Automaton A States q:0 Final States q Prior a -> q b -> q Transitions",
         ),
         (
             "a variable that stands twice on the right",

@@ -1,0 +1,110 @@
+//! The example files: verdicts that were worked out by hand.
+use super::EVEN;
+use super::verdicts::complete;
+use crate::status::Status;
+use std::test::Fail;
+
+/// Even numbers, which are forbidden.
+const FORBIDDEN_EVEN: &str =
+    "Ops zero:0 s:1\nVars x\nTRS R\ns(s(x)) -> x\nAutomaton Even\nStates q0 q1\nFinal States q0\nTransitions\nzero -> q0\ns(q0) -> q1\ns(q1) -> q0\nAutomaton Odd\nStates p0 p1\nFinal States p0\nTransitions\nzero -> p0\ns(p0) -> p1\ns(p1) -> p0\n";
+
+/// A rule by which a term grows.
+const GROWING: &str = "Ops a:0 s:1 g:1\nVars x y u\nTRS R\ng(x) -> g(s(x))\n";
+
+/// The initial automaton of the growing term.
+const GROWING_FROM: &str =
+    "Automaton Init\nStates q0 q1\nFinal States q1\nTransitions\na -> q0\ng(q0) -> q1\n";
+
+/// The constant alone is forbidden.
+const NO_CONSTANT: &str = "Automaton Bad\nStates p0\nFinal States p0\nTransitions\na -> p0\n";
+
+/// A term with two successors is forbidden.
+const NO_TWO: &str =
+    "Automaton Bad\nStates p0 p1 p2 p3\nFinal States p3\nTransitions\na -> p0\ns(p0) -> p1\ns(p1) -> p2\ng(p2) -> p3\n";
+
+/// What the growing terms are approximated by.
+const APPROXIMATION: &str =
+    "Approximation N\nStates k\nRules\n[g(s(x)) -> y] -> [s(u) -> k]\n";
+
+/// A list of one letter is appended to one of another.
+const APPEND: &str =
+    "(* Append of a list of a and a list of b *)\nOps app:2 nil:0 cons:2 a:0 b:0\nVars x y z\nTRS Append\napp(nil,x) -> x\napp(cons(x,y),z) -> cons(x,app(y,z))\nAutomaton Init\nStates q0:0 qla:0 qlb:0 qa:0 qb:0\nDescription q0: \"the call\" qla: \"lists of a\"\nFinal States q0\nTransitions\napp(qla,qlb) -> q0\nnil -> qla\ncons(qa,qla) -> qla\nnil -> qlb\ncons(qb,qlb) -> qlb\na -> qa\nb -> qb\nAutomaton Bad\nStates any has bad fa fb\nFinal States bad\nTransitions\nnil -> any\ncons(fa,any) -> any\ncons(fb,any) -> any\ncons(fa,any) -> has\ncons(fa,has) -> has\ncons(fb,has) -> has\ncons(fb,has) -> bad\ncons(fa,bad) -> bad\ncons(fb,bad) -> bad\na -> fa\nb -> fb\n";
+
+/// Epsilon transitions in a circle.
+const CIRCLE: &str =
+    "Ops a:0 b:0\nAutomaton Loop\nStates p q\nFinal States q\nTransitions\na -> p\np -> q\nq -> p\nAutomaton Bad\nStates p0\nFinal States p0\nTransitions\nb -> p0\n";
+
+/// An equation that takes back what the rule does.
+const TAKEN_BACK: &str =
+    "Ops a:0 f:1 b:0\nVars x\nTRS R\na -> f(b)\nEquations E\nRules\nf(x) = a\nAutomaton Init\nStates q0\nFinal States q0\nTransitions\na -> q0\nAutomaton Bad\nStates p0 p1\nFinal States p1\nTransitions\na -> p0\nf(p0) -> p1\n";
+
+/// A rule that doubles a term.
+const DOUBLING: &str =
+    "Ops a:0 d:1 c:2\nVars x\nTRS R\nd(x) -> c(d(x),d(x))\nAutomaton Init\nStates q0 q1\nFinal States q1\nTransitions\na -> q0\nd(q0) -> q1\nAutomaton Bad\nStates p0\nFinal States p0\nTransitions\na -> p0\n";
+
+/// One automaton alone, with a state to which nothing runs.
+const ALONE: &str =
+    "Ops a:0 b:0\nAutomaton One\nStates q0 q1\nFinal States q0\nTransitions\na -> q0\n";
+
+#[test]
+fn each_example_has_its_verdict(rt: HostRuntime) -> Result<(), Fail> {
+    let alloc = rt.alloc();
+    let merged = format!(in alloc; "{GROWING}Equations E\nRules\ns(x) = x\n{GROWING_FROM}{NO_CONSTANT}")?;
+    let all_one = format!(in alloc; "{GROWING}Equations E\nRules\nx = y\n{GROWING_FROM}{NO_CONSTANT}")?;
+    let bare = format!(in alloc; "{GROWING}{GROWING_FROM}{NO_CONSTANT}")?;
+    let approximated =
+        format!(in alloc; "{GROWING}{GROWING_FROM}{APPROXIMATION}{NO_CONSTANT}")?;
+    let two = format!(in alloc; "{GROWING}{GROWING_FROM}{NO_TWO}")?;
+    let rows: [(&str, &[u8], Status); 12] = [
+        ("even and odd numbers", EVEN, Status::Unreachable),
+        (
+            "even numbers are forbidden",
+            FORBIDDEN_EVEN.as_bytes(),
+            Status::Undecided,
+        ),
+        (
+            "a growing term, successors merged",
+            merged.as_bytes(),
+            Status::Undecided,
+        ),
+        ("a growing term", bare.as_bytes(), Status::Undecided),
+        (
+            "a growing term, all states merged",
+            all_one.as_bytes(),
+            Status::Undecided,
+        ),
+        ("lists appended", APPEND.as_bytes(), Status::Undecided),
+        (
+            "epsilon transitions in a circle",
+            CIRCLE.as_bytes(),
+            Status::Unreachable,
+        ),
+        (
+            "an equation that takes back a rule",
+            TAKEN_BACK.as_bytes(),
+            Status::Undecided,
+        ),
+        ("a term that doubles", DOUBLING.as_bytes(), Status::Undecided),
+        (
+            "a growing term, approximated",
+            approximated.as_bytes(),
+            Status::Undecided,
+        ),
+        (
+            "a growing term, two successors forbidden",
+            two.as_bytes(),
+            Status::Undecided,
+        ),
+        ("one automaton alone", ALONE.as_bytes(), Status::Unreachable),
+    ];
+    for (shows, text, verdict) in rows {
+        let written = match verdict {
+            Status::Unreachable => b"Verdict unreachable\n".as_slice(),
+            _ => b"Verdict undecided\n".as_slice(),
+        };
+        let (status, sink) = complete(alloc, text)?;
+        assert_eq!(rt; status, verdict, "{shows}");
+        assert_eq!(rt; sink.bytes(), written, "{shows}");
+    }
+    Ok(())
+}
