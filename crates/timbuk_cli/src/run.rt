@@ -103,8 +103,11 @@ fn answer<F: Shelf>(
 /// number of steps, is forbidden. `Undecided` comes exactly where the file is any other specification. `BadWords` comes
 /// exactly where the words are no command line, `TooLong` exactly where the file has more than 1,048,576 bytes, `BadSpec`
 /// exactly where its bytes are no specification, `ReadFault` only where the shelf failed at the file, `WriteFault` only
-/// where the sink failed, and `Memory` at want of memory once the words were understood. At each but the last two the
-/// whole text of the answer is written, at `WriteFault` a part of it, and at `Memory` nothing.
+/// where the sink failed, and `Memory` at want of memory once the words were understood.
+///
+/// One line is written: `Verdict unreachable`, `Verdict undecided`, how the program is called, `Too long NAME`,
+/// `Bad specification line L column C: KIND` with the place and the kind of the first fault of the text, or `Cannot read NAME`.
+/// At `WriteFault` a part of such a line was written from its front, and at `Memory` nothing is.
 pub fn run<F: Shelf, K: Sink>(alloc: Global, words: &[String], shelf: &mut F, out: &mut K) -> Status
     ensures ran { Ran (map string_bytes words.now) (F.left shelf.old)
         (λ name. Rose (F.faults shelf.old name) (F.faults shelf.new name))

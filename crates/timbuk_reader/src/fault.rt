@@ -20,13 +20,14 @@ pub enum SpecKind {
     NoInitial,
     /// A symbol stands with another number of arguments than its arity says.
     WrongArity,
-    /// The token, or the end, is none of those that may stand there.
+    /// The grammar does not have the token, or the end, there. So too for a `(` behind a variable or a state, and for an
+    /// `Approximation` in front of the first automaton.
     Expected,
     /// The token would pass this limit.
     Limit(LimitName),
-    /// The name is none of those that may stand there.
+    /// No symbol, variable or state that is allowed in this place has the name.
     UnknownName,
-    /// The name is declared a second time.
+    /// A symbol, variable or state from which this one has to differ has the name already.
     DoubleName,
     /// The left side of a rule begins with a variable.
     VariableLeft,

@@ -47,7 +47,8 @@ fn automata_are_read(rt: HostRuntime) -> Result<(), Fail> {
 }
 
 /// Lists of one letter, each appended to a list of the other; a list with the letters in the other order is forbidden.
-const APPEND: &str = "Ops app:2 nil:0 cons:2 a:0 b:0 Vars x y z TRS Append app(nil,x) -> x app(cons(x,y),z) -> cons(x,app(y,z))
+const APPEND: &str =
+    "Ops app:2 nil:0 cons:2 a:0 b:0 Vars x y z TRS Append app(nil,x) -> x app(cons(x,y),z) -> cons(x,app(y,z))
     Automaton Init States q0:0 qla:0 qlb:0 qa:0 qb:0 Description q0: \"the call\" qla: \"lists of a\" Final States q0
     Transitions app(qla,qlb) -> q0 nil -> qla cons(qa,qla) -> qla nil -> qlb cons(qb,qlb) -> qlb a -> qa b -> qb
     Automaton Bad States any has bad fa fb Final States bad
@@ -55,7 +56,8 @@ const APPEND: &str = "Ops app:2 nil:0 cons:2 a:0 b:0 Vars x y z TRS Append app(n
     cons(fb,has) -> bad cons(fa,bad) -> bad cons(fb,bad) -> bad a -> fa b -> fb";
 
 /// Epsilon transitions in a circle.
-const CIRCLE: &str = "Ops a:0 b:0 Automaton Loop States p q Final States q Transitions a -> p p -> q q -> p
+const CIRCLE: &str =
+    "Ops a:0 b:0 Automaton Loop States p q Final States q Transitions a -> p p -> q q -> p
     Automaton Bad States p0 Final States p0 Transitions b -> p0";
 
 #[test]

@@ -23,8 +23,7 @@ const NO_TWO: &str =
     "Automaton Bad\nStates p0 p1 p2 p3\nFinal States p3\nTransitions\na -> p0\ns(p0) -> p1\ns(p1) -> p2\ng(p2) -> p3\n";
 
 /// What the growing terms are approximated by.
-const APPROXIMATION: &str =
-    "Approximation N\nStates k\nRules\n[g(s(x)) -> y] -> [s(u) -> k]\n";
+const APPROXIMATION: &str = "Approximation N\nStates k\nRules\n[g(s(x)) -> y] -> [s(u) -> k]\n";
 
 /// A list of one letter is appended to one of another.
 const APPEND: &str =
@@ -46,16 +45,23 @@ const DOUBLING: &str =
 const ALONE: &str =
     "Ops a:0 b:0\nAutomaton One\nStates q0 q1\nFinal States q0\nTransitions\na -> q0\n";
 
+/// A text with every section, as the page on the format has it.
+const EVERY_SECTION: &str =
+    "(* g adds a successor to its argument, for ever *)\nOps a:0 s:1 g:1\nVars x y u\nTRS Growing\ng(x) -> g(s(x))\nEquations Same\nRules\ns(s(x)) = s(x)\nAutomaton Init\nStates q0:0 q1\nDescription q0: \"numbers\" q1: \"the call\"\nFinal States q1\nPrior\na -> q0\nTransitions\ng(q0) -> q1\nApproximation Normal\nStates k\nRules\n[g(s(x)) -> y] -> [s(u) -> k]\nAutomaton Bad\nStates p0\nFinal States p0\nTransitions\na -> p0\n";
+
 #[test]
 fn each_example_has_its_verdict(rt: HostRuntime) -> Result<(), Fail> {
     let alloc = rt.alloc();
-    let merged = format!(in alloc; "{GROWING}Equations E\nRules\ns(x) = x\n{GROWING_FROM}{NO_CONSTANT}")?;
-    let all_one = format!(in alloc; "{GROWING}Equations E\nRules\nx = y\n{GROWING_FROM}{NO_CONSTANT}")?;
+    let merged = format!(in alloc;
+        "{GROWING}Equations E\nRules\ns(x) = x\n{GROWING_FROM}{NO_CONSTANT}"
+    )?;
+    let all_one = format!(in alloc;
+        "{GROWING}Equations E\nRules\nx = y\n{GROWING_FROM}{NO_CONSTANT}"
+    )?;
     let bare = format!(in alloc; "{GROWING}{GROWING_FROM}{NO_CONSTANT}")?;
-    let approximated =
-        format!(in alloc; "{GROWING}{GROWING_FROM}{APPROXIMATION}{NO_CONSTANT}")?;
+    let approximated = format!(in alloc; "{GROWING}{GROWING_FROM}{APPROXIMATION}{NO_CONSTANT}")?;
     let two = format!(in alloc; "{GROWING}{GROWING_FROM}{NO_TWO}")?;
-    let rows: [(&str, &[u8], Status); 12] = [
+    let rows: [(&str, &[u8], Status); 13] = [
         ("even and odd numbers", EVEN, Status::Unreachable),
         (
             "even numbers are forbidden",
@@ -84,7 +90,11 @@ fn each_example_has_its_verdict(rt: HostRuntime) -> Result<(), Fail> {
             TAKEN_BACK.as_bytes(),
             Status::Undecided,
         ),
-        ("a term that doubles", DOUBLING.as_bytes(), Status::Undecided),
+        (
+            "a term that doubles",
+            DOUBLING.as_bytes(),
+            Status::Undecided,
+        ),
         (
             "a growing term, approximated",
             approximated.as_bytes(),
@@ -96,6 +106,11 @@ fn each_example_has_its_verdict(rt: HostRuntime) -> Result<(), Fail> {
             Status::Undecided,
         ),
         ("one automaton alone", ALONE.as_bytes(), Status::Unreachable),
+        (
+            "a text with every section",
+            EVERY_SECTION.as_bytes(),
+            Status::Undecided,
+        ),
     ];
     for (shows, text, verdict) in rows {
         let written = match verdict {

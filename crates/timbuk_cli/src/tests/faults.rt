@@ -7,7 +7,7 @@ use std::test::Fail;
 #[test]
 fn faults_are_told_with_their_kind_and_place(rt: HostRuntime) -> Result<(), Fail> {
     let rows: [(&str, &str, &str); 79] = [
-        ("a dash alone", "Ops a:0 -", "line 1 column 9: BadByte"),
+        ("a dash alone", "Ops a:0 -\n", "line 1 column 9: BadByte"),
         (
             "a byte that begins no token",
             "Ops a:0\n;",
@@ -25,7 +25,7 @@ fn faults_are_told_with_their_kind_and_place(rt: HostRuntime) -> Result<(), Fail
         ),
         (
             "a comment without an end",
-            "Ops a:0 (* x",
+            "Ops a:0 (* x\n",
             "line 1 column 9: OpenComment",
         ),
         (
@@ -45,7 +45,7 @@ fn faults_are_told_with_their_kind_and_place(rt: HostRuntime) -> Result<(), Fail
         ),
         (
             "a closed word for a section",
-            "Ops a:0\nSet A",
+            "Ops a:0\nSet A\n",
             "line 2 column 1: UnknownSection",
         ),
         (
@@ -237,7 +237,7 @@ fn faults_are_told_with_their_kind_and_place(rt: HostRuntime) -> Result<(), Fail
         ),
         (
             "an arity of 17",
-            "Ops f:17",
+            "Ops f:17\n",
             "line 1 column 7: Limit arity 16",
         ),
         (
@@ -337,7 +337,7 @@ fn faults_are_told_with_their_kind_and_place(rt: HostRuntime) -> Result<(), Fail
         ),
         (
             "a variable with the name of a symbol",
-            "Ops a:0\nVars a",
+            "Ops a:0\nVars a\n",
             "line 2 column 6: DoubleName",
         ),
         (
@@ -362,7 +362,7 @@ fn faults_are_told_with_their_kind_and_place(rt: HostRuntime) -> Result<(), Fail
         ),
         (
             "a left side that is a variable",
-            "Ops f:1 a:0\nVars x y\nTRS R\nx -> f(y)\n",
+            "Ops f:1 a:0\nVars x\nTRS R\nx -> f(y)\n",
             "line 4 column 1: VariableLeft",
         ),
         (
@@ -372,7 +372,7 @@ fn faults_are_told_with_their_kind_and_place(rt: HostRuntime) -> Result<(), Fail
         ),
         (
             "a variable twice in a left side",
-            "Ops f:2 a:0\nVars x\nTRS R\nf(x,x) -> a",
+            "Ops f:2 a:0\nVars x\nTRS R\nf(x,x) -> a\n",
             "line 4 column 5: NotLeftLinear",
         ),
         (
@@ -497,7 +497,9 @@ fn past_limits(alloc: Global) -> Result<Vec<(String, &'static str)>, AllocError>
             "line 2 column 1: Limit variables 16",
         ),
         (
-            format!(in alloc; "{SEVENTEEN} {AUTOMATON} Approximation N States Rules [{SIXTEEN} -> q] -> [f(v0,\nv16)")?,
+            format!(in alloc;
+                "{SEVENTEEN} {AUTOMATON} Approximation N States Rules [{SIXTEEN} -> q] -> [f(v0,\nv16)"
+            )?,
             "line 2 column 1: Limit variables 16",
         ),
         (
