@@ -9,6 +9,7 @@ PROGRAM is the built program; without it that of this repository is taken. Nothi
 
 Families:
   reading   no rule, one automaton; what takes time is reading
+  faulty    the same with a fault at its end
   closure   one rule over one variable, and a closed automaton: each state is tried for the variable
   missing   no rule, two automata that have no term in common
 """
@@ -49,6 +50,10 @@ def reading(count, chance):
     return "Ops a:0 f:2\nTRS R\n" + automaton("A", states, transitions, ["q0"], chance)
 
 
+def faulty(count, chance):
+    return reading(count, chance) + "f(q0,nowhere) -> q0\n"
+
+
 def closure(count, chance):
     states = [f"q{i}" for i in range(count)]
     transitions = ["a -> q0"]
@@ -71,6 +76,7 @@ def missing(count, chance):
 
 FAMILIES = [
     (reading, [4000, 8000, 16000]),
+    (faulty, [4000, 8000, 16000]),
     (closure, [1000, 2000, 4000]),
     (missing, [4000, 8000, 16000]),
 ]

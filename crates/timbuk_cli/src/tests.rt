@@ -10,6 +10,7 @@ use tim_io::{HonestShelf, HonestSink, MemShelf, MemSink};
 mod examples;
 mod faults;
 mod forbidden;
+mod reading;
 mod verdicts;
 
 /// A text without rules, with one state that a constant runs to.

@@ -21,6 +21,3 @@ pub use laws::{faults_are_first, no_text_has_two_specs, texts_are_read};
 pub use reader::read_spec;
 pub use timbuk_lex::TokenKind;
 pub use token::{Token, TokenError, tokens};
-
-#[cfg(test)]
-mod tests;

@@ -1,9 +1,9 @@
 //! What is read of texts, where it tells most: numbers, orders and what counts once. Worked out by hand.
-use crate::{LimitName, SpecError, SpecKind, TokenError, read_spec, tokens};
 use ranked_terms::{Pattern, Seq, Shape};
 use std::alloc::{AllocError, Global};
 use std::test::Fail;
 use ta_core::{Automaton, Spec};
+use timbuk_reader::{LimitName, SpecError, SpecKind, TokenError, read_spec, tokens};
 
 /// The transitions of an automaton, as `symbol(states)>target` with numbers, one after the other.
 fn told(alloc: Global, automaton: &Automaton) -> Result<String, Fail> {
