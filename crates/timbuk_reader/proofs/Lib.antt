@@ -72,3 +72,9 @@ pub mod StepsApproximationNames
 pub mod StepsApproximationRules
 pub mod StepsApproximationSection
 pub mod ReaderApproximation
+pub mod ExistsAutomata
+pub mod ExistsShapes
+pub mod ExistsEntries
+pub mod ExistsRules
+pub mod ExistsSections
+pub mod ExistsSpec

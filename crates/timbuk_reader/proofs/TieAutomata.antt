@@ -35,7 +35,7 @@ apart_lists (x ∷ xs) zs t d c =
     let first : bytes_eq x t ≡ false = All-contains (λ y. bytes_eq x y ≡ false) (xs ++ zs) t (All-from_recursion (λ y. bytes_eq x y ≡ false) (xs ++ zs) d.0) (Contains-append_right xs zs t c) in
     λ i. (nat_list_eq_equiv.symm t x ∙ first) i || apart_lists xs zs t d.1 c i
 
-no_symbol : (symbols : List Symbol) (variables states : List Text) → IsDistinct bytes_eq ((names_of symbols ++ variables) ++ states) → (t : Text) → Contains states t → number_of symbols t ≡ None
+pub no_symbol : (symbols : List Symbol) (variables states : List Text) → IsDistinct bytes_eq ((names_of symbols ++ variables) ++ states) → (t : Text) → Contains states t → number_of symbols t ≡ None
 no_symbol symbols variables states d t c =
     position_absent (names_of symbols) t (apart_lists (names_of symbols) (variables ++ states) t (subst (IsDistinct bytes_eq) (append_assoc (names_of symbols) variables states) d) (Contains-append_right variables states t c))
 

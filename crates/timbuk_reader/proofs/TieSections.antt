@@ -47,7 +47,7 @@ sections-push (w ∷ vs) v rest =
     ∙ sym (append_assoc (labelled grammar.section w) (labelled_sections vs) (labelled grammar.section v ++ rest)))
 
 -- a section begins with a word
-section_clear : (v : Value grammar.section) (rest : List Label) → NotOpening (labelled grammar.section v ++ rest)
+pub section_clear : (v : Value grammar.section) (rest : List Label) → NotOpening (labelled grammar.section v ++ rest)
 section_clear (inl v) rest = apart terminal.Trs terminal.OpenParen v.0.lexeme refl v.0.matched
 section_clear (inr (inl v)) rest = apart terminal.Automaton terminal.OpenParen v.0.lexeme refl v.0.matched
 section_clear (inr (inr (inl v))) rest = apart terminal.Equations terminal.OpenParen v.0.lexeme refl v.0.matched

@@ -68,15 +68,15 @@ none_at_end : (end : End) (d : Declared) → (d.automata == 0) ≡ false → rea
 unfolding end_row
 none_at_end end d h = ap (λ o. calm (end_by o end (closed d))) (when-false (d.automata == 0) _ h)
 
-record IsWholeAt (d e : Declared) : Type 0 where
-  some : (d.automata == 0) ≡ false
-  is : closed d ≡ e
+pub record IsWholeAt (d e : Declared) : Type 0 where
+  pub some : (d.automata == 0) ≡ false
+  pub is : closed d ≡ e
 
 end_read : (end : End) (d e : Declared) (o : Option SpecKind) → calm (end_by o end (closed d)) ≡ Ok e → (o ≡ None) × (closed d ≡ e)
 end_read end d e None h = (refl, cc)
 end_read end d e (Some k) h = cc
 
-whole_at_end : (end : End) (d e : Declared) → reads end (closed d) [] ≡ Ok e → IsWholeAt d e
+pub whole_at_end : (end : End) (d e : Declared) → reads end (closed d) [] ≡ Ok e → IsWholeAt d e
 unfolding end_row
 whole_at_end end d e h =
     let k = end_read end d e (when (d.automata == 0) _) h in
@@ -94,13 +94,13 @@ module _ (end : End) (v : Value grammar.file) where
   abbrev behind_variables : Declared
   behind_variables = closed (with_variables variables (with_symbols (symbols_in v.0) nothing))
 
-  front_tied : IsTied end Whatever nothing (labelled (grammar.maybe grammar.ops) v.0 ++ labelled (grammar.maybe grammar.vars) v.1.0) ((w : AreSymbols (symbols_in v.0)) × AreNewNames (names_of symbols) 1024 variables) (λ w. behind_variables)
+  pub front_tied : IsTied end Whatever nothing (labelled (grammar.maybe grammar.ops) v.0 ++ labelled (grammar.maybe grammar.vars) v.1.0) ((w : AreSymbols (symbols_in v.0)) × AreNewNames (names_of symbols) 1024 variables) (λ w. behind_variables)
   front_tied =
       let d = with_symbols (symbols_in v.0) nothing in
       in_turn (leads_tied end nothing (closed d) (labelled (grammar.maybe grammar.ops) v.0) (AreSymbols (symbols_in v.0)) (maybe_ops_lead nothing [] v.0 refl AreSymbols-nil))
       (λ w. leads_tied end (closed d) behind_variables (labelled (grammar.maybe grammar.vars) v.1.0) (AreNewNames (names_of symbols) 1024 variables) (maybe_vars_lead d v.1.0 (AreNewNames-nil (names_of symbols) 1024 w.distinct)))
 
-  labels_are : labelled grammar.file v ≡ (labelled (grammar.maybe grammar.ops) v.0 ++ labelled (grammar.maybe grammar.vars) v.1.0) ++ (labelled_sections v.1.1 ++ [])
+  pub labels_are : labelled grammar.file v ≡ (labelled (grammar.maybe grammar.ops) v.0 ++ labelled (grammar.maybe grammar.vars) v.1.0) ++ (labelled_sections v.1.1 ++ [])
   labels_are =
       sym (append_assoc (labelled (grammar.maybe grammar.ops) v.0) (labelled (grammar.maybe grammar.vars) v.1.0) (labelled_sections v.1.1))
       ∙ ap (λ l. (labelled (grammar.maybe grammar.ops) v.0 ++ labelled (grammar.maybe grammar.vars) v.1.0) ++ l) (sym (append-nil (labelled_sections v.1.1)))

@@ -25,13 +25,13 @@ use Rattle.timbuk_reader.proofs.TieNamesTexts.{AreNewNames-front}
 
 -- ---- rules and equations
 
-all_rules : (names : Names) (ds : List RuleDeclaration) (rs : List RewriteRule) → AllZip (IsRuleFrom names) ds rs → All IsRule rs
+pub all_rules : (names : Names) (ds : List RuleDeclaration) (rs : List RewriteRule) → AllZip (IsRuleFrom names) ds rs → All IsRule rs
 all_rules names [] [] h = All-nil IsRule
 all_rules names [] (r ∷ rs) h = absurd h
 all_rules names (d ∷ ds) [] h = absurd h
 all_rules names (d ∷ ds) (r ∷ rs) h = All-cons IsRule r rs h.0.is_rule (all_rules names ds rs h.1)
 
-all_equations : (names : Names) (ds : List EquationDeclaration) (qs : List RewriteEquation) → AllZip (IsEquationFrom names) ds qs → All IsEquation qs
+pub all_equations : (names : Names) (ds : List EquationDeclaration) (qs : List RewriteEquation) → AllZip (IsEquationFrom names) ds qs → All IsEquation qs
 all_equations names [] [] h = All-nil IsEquation
 all_equations names [] (q ∷ qs) h = absurd h
 all_equations names (d ∷ ds) [] h = absurd h

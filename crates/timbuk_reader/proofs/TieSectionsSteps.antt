@@ -77,7 +77,7 @@ pub record SystemOnly (end : End) (d : Declared) (v : Value grammar.system) (res
   pub behind : reads end (closed (with_system d sides)) rest ≡ Ok e
 
 module _ (end : End) (d : Declared) (v : Value grammar.system) where
-  system_front : IsTied end Whatever (closed d) ((label v.0 ∷ []) ++ (label v.1.0 ∷ [])) ((w : d.systems < 1) × IsShort (text_of v.1.0)) (λ w. closed (record d { systems = d.systems + 1 }))
+  pub system_front : IsTied end Whatever (closed d) ((label v.0 ∷ []) ++ (label v.1.0 ∷ [])) ((w : d.systems < 1) × IsShort (text_of v.1.0)) (λ w. closed (record d { systems = d.systems + 1 }))
   system_front = in_turn (system_word_tied d v.0) (λ w. title_tied (record d { systems = d.systems + 1 }) v.1.0)
 
   pub system_fine : (rs : List RewriteRule) → sides.AreShort (rule_names d) → d.systems < 1 → IsShort (text_of v.1.0) → AllZip (IsRuleFrom (rule_names d)) (map rule_of v.1.1) rs → length d.rules + length rs ≤ 4096
@@ -123,7 +123,7 @@ pub record EquationsSectionOnly (end : End) (d : Declared) (v : Value grammar.eq
   pub behind : reads end (closed (with_equations_section d sides)) rest ≡ Ok e
 
 module _ (end : End) (d : Declared) (v : Value grammar.equations) where
-  equations_front : IsTied end Whatever (closed d) ((label v.0 ∷ []) ++ ((label v.1.0 ∷ []) ++ (label v.1.1.0 ∷ []))) ((w : d.equation_sections < 1) × (IsShort (text_of v.1.0) × Unit {0})) (λ w. closed (record d { equation_sections = d.equation_sections + 1 }))
+  pub equations_front : IsTied end Whatever (closed d) ((label v.0 ∷ []) ++ ((label v.1.0 ∷ []) ++ (label v.1.1.0 ∷ []))) ((w : d.equation_sections < 1) × (IsShort (text_of v.1.0) × Unit {0})) (λ w. closed (record d { equation_sections = d.equation_sections + 1 }))
   equations_front =
       let d1 = record d { equation_sections = d.equation_sections + 1 } in
       in_turn (equations_word_tied d v.0) (λ w. in_turn (title_tied d1 v.1.0) (λ u. rules_word_tied d1 v.1.1.0))

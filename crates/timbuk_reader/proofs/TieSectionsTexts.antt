@@ -10,7 +10,7 @@ use Rattle.timbuk_reader.proofs.Labelled.{file_judge, file_read}
 use Rattle.timbuk_reader.proofs.TieSectionsFile.{file_fine, file_only}
 
 -- the end of a text
-abbrev end_of : List ℕ → End
+abbrev pub end_of : List ℕ → End
 end_of bytes = record { ending = (lexed bytes).ending; line = line_of bytes; column = column_of bytes }
 
 pub read_is_spelled : WhatIsReadIsSpelled

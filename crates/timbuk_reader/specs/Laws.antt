@@ -22,6 +22,10 @@ WhatIsReadIsSpelled = (bytes : List ℕ) (spec : Spec) → IsRead bytes spec →
 abbrev pub WhatIsSpelledIsRead : Type 0
 WhatIsSpelledIsRead = (bytes : List ℕ) (spec : Spec) → SpecText bytes spec → IsRead bytes spec
 
+-- a text in which no row of the table of faults fits spells a spec
+abbrev pub WhatHasNoFaultIsSpelled : Type 0
+WhatHasNoFaultIsSpelled = (bytes : List ℕ) → ((f : SpecFault) → SpecFaultAt bytes f → ⊥) → (spec : Spec) × SpecText bytes spec
+
 -- no text spells two specs
 abbrev pub OneSpec : Type 0
 OneSpec = (bytes : List ℕ) (a b : Spec) → SpecText bytes a → SpecText bytes b → a ≡ b

@@ -1,11 +1,12 @@
 //! Laws of input texts. Each function does nothing: its contract is the law.
-ghost use Rattle.timbuk_reader.specs.Laws.{WhatIsReadIsSpelled, WhatIsSpelledIsRead, OneSpec, FaultsAreFirst};
+ghost use Rattle.timbuk_reader.specs.Laws.{WhatIsReadIsSpelled, WhatIsSpelledIsRead, WhatHasNoFaultIsSpelled, OneSpec, FaultsAreFirst};
 
 /// No row of the table of faults fits a text anywhere exactly where the text spells a specification, and this is what is
 /// read in it.
 pub fn texts_are_read()
     ensures read { WhatIsReadIsSpelled }
     ensures spelled { WhatIsSpelledIsRead }
+    ensures faultless { WhatHasNoFaultIsSpelled }
 {}
 
 /// No text spells two specifications.

@@ -1,4 +1,5 @@
--- A text is read without a fault exactly where it spells a specification.
+-- A text is read without a fault exactly where it spells a specification, and so where no row of the table of faults fits.
+use Rattle.timbuk_reader.proofs.ExistsSpec.{faultless_is_spelled}
 use Rattle.timbuk_reader.proofs.TieSectionsTexts.{read_is_spelled, spelled_is_read}
 use Rattle.timbuk_reader.proofs.laws.texts_are_read.Goals as goal
 
@@ -7,3 +8,6 @@ returns-clause-read c = read_is_spelled
 
 pub returns-clause-spelled : goal.returns-clause-spelled
 returns-clause-spelled c = spelled_is_read
+
+pub returns-clause-faultless : goal.returns-clause-faultless
+returns-clause-faultless c = faultless_is_spelled
