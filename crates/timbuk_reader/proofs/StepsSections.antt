@@ -87,7 +87,7 @@ end_reached r none e w z =
     ap settled (ap (outcome (end_of r) [] (state_of r)) e ∙ ap (λ ending. ends_by ending (end_of r) [] (state_of r)) w ∙ ap (λ b. end_by (when b kind.NoInitial) (end_of r) (state_of r)) z)
 
 -- no automaton
-pub end_without_automaton : (r : Reader) → r.tokens.now ≡ [] → r.ending ≡ Whole → r.automata ≡ 0 → as_error (at_end r) ≡ Err (error.Fault (fault kind.NoInitial r.line r.column))
+pub end_without_automaton : (r : Reader) → r.tokens.now ≡ [] → r.ending ≡ Whole → r.automata ≡ 0 → as_error (at_end r) ≡ Err (error.Fault (fault kind.NoInitial (end_of r).line (end_of r).column))
 end_without_automaton r e w z = ap as_error (end_reached r true e w (ap (λ n. n == 0) z))
 
 pub end_is_whole : (r : Reader) → r.tokens.now ≡ [] → r.ending ≡ Whole → r.automata ≢ 0 → at_end r ≡ Ok (state_of r)

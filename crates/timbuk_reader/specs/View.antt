@@ -2,6 +2,7 @@
 use Rattle.std.specs.Prelude.{◌<◌, ℕ, Bool, true, false, List, [], ◌∷◌, length, map, Result, Ok, Err}
 use Rattle.ranked_terms.specs.declared.term.Shape.{Shape}
 use Rattle.trs_rules.specs.Rules.{RewriteRule, RewriteEquation}
+use Rattle.timbuk_lex.specs.Places.{line_of, column_of}
 use Rattle.timbuk_lex.specs.declared.lexeme.Lexeme.{Lexeme}
 use Rattle.timbuk_lex.specs.declared.lex.Ending.{Ending}
 use Rattle.timbuk_lex.specs.declared.lex.Ending.TheVariants.{Whole, Stopped}
@@ -89,8 +90,15 @@ inside o bound d = record d { name = o.name; applications = o.applications; shap
 abbrev pub state_of : Reader → Declared
 state_of r = declared closed r
 
+-- the place of a text's end
+unfoldable pub end_line : List ℕ → ℕ
+end_line bytes = line_of bytes
+
+unfoldable pub end_column : List ℕ → ℕ
+end_column bytes = column_of bytes
+
 abbrev pub end_of : Reader → End
-end_of r = record { ending = r.ending; line = r.line; column = r.column }
+end_of r = record { ending = r.ending; line = end_line r.bytes.now; column = end_column r.bytes.now }
 
 -- what a whole text declares, whatever its last token was
 abbrev pub settled : Outcome → Outcome

@@ -5,6 +5,7 @@ ghost use Rattle.timbuk_lex.specs.Laws.{HasWord};
 ghost use Rattle.timbuk_lex.specs.declared.lexeme.TokenKind.TheVariants.{Word};
 ghost use Rattle.timbuk_grammar.specs.Grammar as grammar;
 ghost use Rattle.timbuk_reader.specs.Rows.{is_closed_word};
+ghost use Rattle.timbuk_reader.specs.Reading.{fault};
 ghost use Rattle.timbuk_reader.specs.View.{Shorter, closed, end_of, end_fault, state_of, sees, refusal};
 ghost use Rattle.timbuk_reader.specs.Reads.{Reads, Takes, IsMark, IsWordly, Stands, HasNoWord};
 
@@ -12,7 +13,7 @@ use crate::fault::{LimitName, SpecError, SpecFault, SpecKind, lexical_kind};
 use crate::state::Reader;
 use ranked_terms::MAX_NAME;
 use timbuk_grammar::{Terminal, is_closed_word};
-use timbuk_lex::{Ending, Lexeme, TokenKind};
+use timbuk_lex::{Ending, Lexeme, TokenKind, end_of};
 
 /// The bytes of a word, as a text.
 fn text_of<'a>(token: &Lexeme<'a>) -> &'a str
@@ -49,16 +50,25 @@ impl<'s, 'a> Reader<'s, 'a> {
         ensures { result ≡ end_fault self.now.ending (end_of self.now) }
     {
         match self.ending {
-            Ending::Whole => SpecFault {
-                kind: SpecKind::Expected,
-                line: self.line,
-                column: self.column,
-            },
+            Ending::Whole => self.at_the_end(SpecKind::Expected),
             Ending::Stopped { why, line, column } => SpecFault {
                 kind: lexical_kind(why),
                 line,
                 column,
             },
+        }
+    }
+
+    /// The fault of this kind at the place after the last byte of the text.
+    #[tactic(auto, unfolding(crate::specs::View::end_line, crate::specs::View::end_column))]
+    pub(crate) fn at_the_end(&self, kind: SpecKind) -> SpecFault
+        ensures { result ≡ fault kind (end_of self.now).line (end_of self.now).column }
+    {
+        let end = end_of(self.bytes);
+        SpecFault {
+            kind,
+            line: end.line,
+            column: end.column,
         }
     }
 

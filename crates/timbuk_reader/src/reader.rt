@@ -12,7 +12,7 @@ ghost use Rattle.timbuk_reader.specs.Spelled.{IsAutomatonOf, IsSpecOf};
 ghost use Rattle.timbuk_reader.specs.SpecText.{SpecText};
 ghost use Rattle.timbuk_reader.specs.Faults.{SpecFaultAt};
 ghost use Rattle.timbuk_reader.specs.Laws.{IsRead};
-ghost use Rattle.timbuk_reader.specs.View.{started, state_of, end_of};
+ghost use Rattle.timbuk_reader.specs.View.{started, state_of, end_line, end_column, end_of};
 
 use crate::fault::SpecError;
 use crate::names::NameTable;
@@ -20,7 +20,7 @@ use crate::state::{Reader, StartedAutomaton};
 use ranked_terms::{Seq, Signature};
 use std::alloc::{AllocError, Global};
 use ta_core::{Automaton, Spec};
-use timbuk_lex::{Lexed, Place, end_of, lex_of};
+use timbuk_lex::{Lexed, lex_of};
 
 /// Reads a text of fewer than 4,294,967,295 bytes: the specification that it spells, where it spells one. Else `Fault` has
 /// the first place at which the text is wrong, and what is wrong there. `Memory` comes at want of memory.
@@ -45,26 +45,25 @@ fn read_text(alloc: Global, bytes: &[u8]) -> Result<Spec, SpecError>
     ensures stops { (told : Told) → result ≡ Err (SpecError.Fault told) → read bytes.now ≡ Err told }
 {
     let lexed = lex_of(alloc, bytes)?;
-    let mut reader = Reader::new(alloc, &lexed, end_of(bytes));
+    let mut reader = Reader::new(alloc, &lexed, bytes);
     reader.text()?;
     Ok(reader.into_spec()?)
 }
 
 impl<'s, 'a> Reader<'s, 'a> {
-    /// The reader that has the tokens of a text before it, which ends at this place. It takes no memory yet, and grows by
-    /// `alloc`.
-    fn new(alloc: Global, lexed: &'s Lexed<'a>, end: Place) -> Reader<'s, 'a>
-        requires { All HasWord lexed.now.tokens }
+    /// The reader that has the tokens of this text before it. It takes no memory yet, and grows by `alloc`.
+    fn new(alloc: Global, lexed: &'s Lexed<'a>, bytes: &'a [u8]) -> Reader<'s, 'a>
+        requires words { All HasWord lexed.now.tokens }
+        requires few { length bytes.now < 2 ^ 32 - 1 }
         ensures tokens { result.tokens.now ≡ lexed.now.tokens }
         ensures state { state_of result ≡ nothing }
-        ensures end { end_of result ≡ record { ending = lexed.now.ending; line = end.line; column = end.column } }
+        ensures end { end_of result ≡ record { ending = lexed.now.ending; line = end_line bytes.now; column = end_column bytes.now } }
     {
         Reader {
             alloc,
             tokens: lexed.tokens.as_slice(),
             ending: lexed.ending,
-            line: end.line,
-            column: end.column,
+            bytes,
             signature: Signature::new(alloc),
             variables: NameTable::new(alloc),
             systems: 0,

@@ -5,7 +5,7 @@ ghost use Rattle.timbuk_reader.specs.SectionReads.{word_of, part_of, BeginsNone,
 ghost use Rattle.timbuk_reader.specs.View.{Shorter, closed, as_error, state_of, sees};
 ghost use Rattle.timbuk_reader.specs.Reads.{Reads, IsFresh};
 
-use crate::fault::{SpecError, SpecFault, SpecKind};
+use crate::fault::{SpecError, SpecKind};
 use crate::state::Reader;
 use timbuk_grammar::Terminal;
 use timbuk_lex::Ending;
@@ -98,11 +98,7 @@ impl<'s, 'a> Reader<'s, 'a> {
             return Err(self.refusal(SpecKind::Expected));
         }
         if self.automata == 0 {
-            return Err(SpecError::Fault(SpecFault {
-                kind: SpecKind::NoInitial,
-                line: self.line,
-                column: self.column,
-            }));
+            return Err(SpecError::Fault(self.at_the_end(SpecKind::NoInitial)));
         }
         Ok(())
     }

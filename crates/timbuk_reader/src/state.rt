@@ -1,5 +1,5 @@
 //! The reader's state.
-ghost use Rattle.std.specs.Prelude.{◌≡◌, ◌≤◌, ◌-◌, [], All, IsTrue, length};
+ghost use Rattle.std.specs.Prelude.{◌≡◌, ◌<◌, ◌≤◌, ◌-◌, ◌^◌, [], All, IsTrue, length};
 ghost use Rattle.timbuk_lex.specs.Laws.{HasWord};
 ghost use Rattle.trs_rules.specs.Rules.{IsEquation};
 ghost use Rattle.ta_core.specs.SpecRules.{rules_are_over, equations_are_over, entries_are_over, entries_are_below, entries_are_small};
@@ -30,10 +30,8 @@ pub(crate) struct Reader<'s, 'a> {
     pub(crate) tokens: &'s [Lexeme<'a>],
     /// What stands behind them.
     pub(crate) ending: Ending,
-    /// The line of the text's end.
-    pub(crate) line: u32,
-    /// The column of the text's end.
-    pub(crate) column: u32,
+    /// The whole text, which only the place of its end is looked for in.
+    pub(crate) bytes: &'a [u8],
     /// The symbols.
     pub(crate) signature: Signature,
     /// The variables.
@@ -60,6 +58,8 @@ pub(crate) struct Reader<'s, 'a> {
     pub(crate) entries: Seq<Entry>,
     /// The variables of the declaration that is being read, each once.
     pub(crate) bound: Seq<u32>,
+    // Lines and columns fit.
+    ghost few_bytes: { length bytes.now < 2 ^ 32 - 1 },
     // The text of a word token is a word.
     ghost words: { All HasWord tokens.now },
     ghost are_rules: { All IsKeptRule rules },

@@ -1,13 +1,11 @@
-use Rattle.std.proofs.Common.{◌≡◌, [], ◌∷◌, Ok, sym, ap, ◌∙◌, subst}
-use Rattle.timbuk_lex.specs.declared.lex.Lexed.{Lexed}
-use Rattle.timbuk_lex.specs.Lexing.{lexed}
-use Rattle.timbuk_lex.specs.Places.{line_of, column_of}
-use Rattle.timbuk_grammar.specs.Grammar.{file}
-use Rattle.timbuk_reader.specs.Reading.{End, outcome, read}
+use Rattle.std.proofs.Common.{◌≡◌, Err, sym, ap, ◌∙◌, subst}
+use Rattle.std.proofs.lemmas.Result.{err_from_is_err_and}
+use Rattle.timbuk_reader.specs.Reading.{read}
 use Rattle.timbuk_reader.specs.Spelled.{IsSpecOf}
-use Rattle.timbuk_reader.specs.View.{settled, state_of, end_of}
+use Rattle.timbuk_reader.specs.View.{as_error, state_of}
 use Rattle.timbuk_reader.proofs.ReaderSpecText.{fresh_start}
-use Rattle.timbuk_reader.proofs.ReaderWhole.{ReadTo, settled_ok, any_last}
+use Rattle.timbuk_reader.proofs.ReaderWhole.{ReadTo, read_from, stopped, settled_ok, any_last}
+use Rattle.timbuk_reader.specs.declared.fault.SpecError.TheVariants as error
 use Rattle.timbuk_reader.proofs.reader.read_text.Goals as goal
 
 pub text-requires : goal.text-requires
@@ -18,14 +16,19 @@ returns-clause-read c =
     let bytes = c.args.bytes.now in
     let r = c.new-reader.result in
     let spec = c.in_ok-into_spec.field-0 in
-    let exact : c.in_ok-lexed.lexed ≡ lexed bytes = c.in_ok-lexed.ensures.exact in
-    let end : ◌≡◌ {A = End} (end_of r) (record { ending = (lexed bytes).ending; line = line_of bytes; column = column_of bytes }) =
-    c.new-reader.ensures.end ∙ (λ i. record { ending = (exact i).ending; line = c.end_of.ensures.line i; column = c.end_of.ensures.column i }) in
-    let tokens = c.new-reader.ensures.tokens ∙ ap (λ (l : Lexed). l.tokens) exact in
-    let whole : settled (read bytes) ≡ Ok (state_of c.text.new.self) = sym (λ i. settled (outcome (end i) (file ∷ []) (c.new-reader.ensures.state i) (tokens i))) ∙ c.in_ok-text.ensures.ok in
-    let found : ReadTo (read bytes) (state_of c.text.new.self) = settled_ok (read bytes) (state_of c.text.new.self) whole in
+    let here = read_from bytes c.in_ok-lexed.lexed r c.in_ok-lexed.ensures.exact c.new-reader.ensures.tokens c.new-reader.ensures.state c.new-reader.ensures.end in
+    let found : ReadTo (read bytes) (state_of c.text.new.self) = settled_ok (read bytes) (state_of c.text.new.self) (sym here ∙ c.in_ok-text.ensures.ok) in
     record {
       declared = found.declared;
       no_fault = found.read;
       spec_of = any_last found.declared spec (subst (λ z. IsSpecOf z spec) (sym found.settled_is) c.in_ok-into_spec.ensures);
     }
+
+pub returns-in_err-text-clause-stops : goal.returns-in_err-text-clause-stops
+returns-in_err-text-clause-stops c told e =
+    let bytes = c.args.bytes.now in
+    let r = c.new-reader.result in
+    let here = read_from bytes c.in_ok-lexed.lexed r c.in_ok-lexed.ensures.exact c.new-reader.ensures.tokens c.new-reader.ensures.state c.new-reader.ensures.end in
+    let answered = err_from_is_err_and c.from_residual-in_err-text.result c.from_residual-in_err-text.ensures.1 in
+    let same : c.in_err-text.field-0.0 ≡ error.Fault told = cc (answered.1, e, answered.2) in
+    stopped (read bytes) told (sym (ap as_error here) ∙ c.in_err-text.ensures.err (λ m. cc (same, m)) ∙ ap Err same)
