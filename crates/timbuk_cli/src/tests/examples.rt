@@ -1,8 +1,11 @@
 //! The example files: verdicts that were worked out by hand.
-use super::EVEN;
 use super::verdicts::complete;
 use crate::status::Status;
 use std::test::Fail;
+
+/// Even numbers, where odd ones are forbidden.
+const EVEN_AND_ODD: &str =
+    "Ops zero:0 s:1\nVars x\nTRS R\ns(s(x)) -> x\nAutomaton Even\nStates q0 q1\nFinal States q0\nTransitions\nzero -> q0\ns(q0) -> q1\ns(q1) -> q0\nAutomaton Odd\nStates p0 p1\nFinal States p1\nTransitions\nzero -> p0\ns(p0) -> p1\ns(p1) -> p0\n";
 
 /// Even numbers, which are forbidden.
 const FORBIDDEN_EVEN: &str =
@@ -49,75 +52,75 @@ const ALONE: &str =
 const EVERY_SECTION: &str =
     "(* g adds a successor to its argument, for ever *)\nOps a:0 s:1 g:1\nVars x y u\nTRS Growing\ng(x) -> g(s(x))\nEquations Same\nRules\ns(s(x)) = s(x)\nAutomaton Init\nStates q0:0 q1\nDescription q0: \"numbers\" q1: \"the call\"\nFinal States q1\nPrior\na -> q0\nTransitions\ng(q0) -> q1\nApproximation Normal\nStates k\nRules\n[g(s(x)) -> y] -> [s(u) -> k]\nAutomaton Bad\nStates p0\nFinal States p0\nTransitions\na -> p0\n";
 
+/// The two equations that successors, and all terms, are merged by.
+const MERGED: &str = "Equations E\nRules\ns(x) = x\n";
+
+const ALL_ONE: &str = "Equations E\nRules\nx = y\n";
+
 #[test]
 fn each_example_has_its_verdict(rt: HostRuntime) -> Result<(), Fail> {
     let alloc = rt.alloc();
-    let merged = format!(in alloc;
-        "{GROWING}Equations E\nRules\ns(x) = x\n{GROWING_FROM}{NO_CONSTANT}"
-    )?;
-    let all_one = format!(in alloc;
-        "{GROWING}Equations E\nRules\nx = y\n{GROWING_FROM}{NO_CONSTANT}"
-    )?;
-    let bare = format!(in alloc; "{GROWING}{GROWING_FROM}{NO_CONSTANT}")?;
-    let approximated = format!(in alloc; "{GROWING}{GROWING_FROM}{APPROXIMATION}{NO_CONSTANT}")?;
-    let two = format!(in alloc; "{GROWING}{GROWING_FROM}{NO_TWO}")?;
-    let rows: [(&str, &[u8], Status); 13] = [
-        ("even and odd numbers", EVEN, Status::Unreachable),
+    let rows: [(&str, &[&str], Status); 13] = [
+        ("even and odd numbers", &[EVEN_AND_ODD], Status::Unreachable),
         (
             "even numbers are forbidden",
-            FORBIDDEN_EVEN.as_bytes(),
+            &[FORBIDDEN_EVEN],
             Status::Undecided,
         ),
         (
             "a growing term, successors merged",
-            merged.as_bytes(),
+            &[GROWING, MERGED, GROWING_FROM, NO_CONSTANT],
             Status::Undecided,
         ),
-        ("a growing term", bare.as_bytes(), Status::Undecided),
         (
-            "a growing term, all states merged",
-            all_one.as_bytes(),
+            "a growing term",
+            &[GROWING, GROWING_FROM, NO_CONSTANT],
             Status::Undecided,
         ),
-        ("lists appended", APPEND.as_bytes(), Status::Undecided),
+        (
+            "a growing term, all terms merged",
+            &[GROWING, ALL_ONE, GROWING_FROM, NO_CONSTANT],
+            Status::Undecided,
+        ),
+        ("lists appended", &[APPEND], Status::Undecided),
         (
             "epsilon transitions in a circle",
-            CIRCLE.as_bytes(),
+            &[CIRCLE],
             Status::Unreachable,
         ),
         (
             "an equation that takes back a rule",
-            TAKEN_BACK.as_bytes(),
+            &[TAKEN_BACK],
             Status::Undecided,
         ),
-        (
-            "a term that doubles",
-            DOUBLING.as_bytes(),
-            Status::Undecided,
-        ),
+        ("a term that doubles", &[DOUBLING], Status::Undecided),
         (
             "a growing term, approximated",
-            approximated.as_bytes(),
+            &[GROWING, GROWING_FROM, APPROXIMATION, NO_CONSTANT],
             Status::Undecided,
         ),
         (
             "a growing term, two successors forbidden",
-            two.as_bytes(),
+            &[GROWING, GROWING_FROM, NO_TWO],
             Status::Undecided,
         ),
-        ("one automaton alone", ALONE.as_bytes(), Status::Unreachable),
+        ("one automaton alone", &[ALONE], Status::Unreachable),
         (
             "a text with every section",
-            EVERY_SECTION.as_bytes(),
+            &[EVERY_SECTION],
             Status::Undecided,
         ),
     ];
-    for (shows, text, verdict) in rows {
+    for (shows, pieces, verdict) in rows {
+        let mut text = String::new(alloc);
+        for piece in pieces {
+            text.push_str(piece)?;
+        }
         let written = match verdict {
             Status::Unreachable => b"Verdict unreachable\n".as_slice(),
             _ => b"Verdict undecided\n".as_slice(),
         };
-        let (status, sink) = complete(alloc, text)?;
+        let (status, sink) = complete(alloc, text.as_bytes())?;
         assert_eq!(rt; status, verdict, "{shows}");
         assert_eq!(rt; sink.bytes(), written, "{shows}");
     }

@@ -397,8 +397,9 @@ fn faults_are_told_with_their_kind_and_place(rt: HostRuntime) -> Result<(), Fail
         assert_eq!(rt; status, Status::BadSpec, "{shows}");
         assert_eq!(rt; sink.bytes(), told.as_bytes(), "{shows}");
     }
-    for (text, fault) in past_limits(rt.alloc())?.iter() {
+    for (long, fault) in PAST_LIMITS {
         let told = format!(in rt.alloc(); "Bad specification {fault}\n")?;
+        let text = long.text(rt.alloc())?;
         let (status, sink) = complete(rt.alloc(), text.as_bytes())?;
         assert_eq!(rt; status, Status::BadSpec, "{fault}");
         assert_eq!(rt; sink.bytes(), told.as_bytes(), "{fault}");
@@ -406,156 +407,325 @@ fn faults_are_told_with_their_kind_and_place(rt: HostRuntime) -> Result<(), Fail
     Ok(())
 }
 
-/// The head of a text, and so many lines: a beginning, the number of the line from 0, and an end.
-fn numbered(
-    alloc: Global,
-    head: &str,
-    begin: &str,
-    end: &str,
+/// A long text: a head, so many pieces, each with its number from 0 and an end where they are numbered, and a tail.
+#[derive(Clone, Copy)]
+struct Long {
+    head: &'static str,
+    piece: &'static str,
+    numbered: bool,
+    end: &'static str,
     count: usize,
-) -> Result<String, AllocError> {
-    let mut text = String::from_str(alloc, head)?;
-    for number in 0..count {
-        let line = format!(in alloc; "\n{begin}{number}{end}")?;
-        text.push_str(&line)?;
-    }
-    Ok(text)
+    tail: &'static str,
 }
 
-/// The head of a text, and the same piece so often.
-fn many(alloc: Global, head: &str, piece: &str, count: usize) -> Result<String, AllocError> {
-    let mut text = String::from_str(alloc, head)?;
-    for _ in 0..count {
-        text.push_str(piece)?;
+impl Long {
+    /// The text.
+    fn text(&self, alloc: Global) -> Result<String, AllocError> {
+        let mut text = String::from_str(alloc, self.head)?;
+        for number in 0..self.count {
+            text.push_str(self.piece)?;
+            if self.numbered {
+                let digits = format!(in alloc; "{number}")?;
+                text.push_str(&digits)?;
+            }
+            text.push_str(self.end)?;
+        }
+        text.push_str(self.tail)?;
+        Ok(text)
     }
-    Ok(text)
 }
-
-/// An automaton of one state, for the end of a text.
-const AUTOMATON: &str = " Automaton A States q Final States q Transitions a -> q";
-
-/// Symbols, and seventeen variables.
-const SEVENTEEN: &str =
-    "Ops a:0 f:2 h:16 Vars v0 v1 v2 v3 v4 v5 v6 v7 v8 v9 v10 v11 v12 v13 v14 v15 v16";
-
-/// A term of sixteen of these.
-const SIXTEEN: &str = "h(v0,v1,v2,v3,v4,v5,v6,v7,v8,v9,v10,v11,v12,v13,v14,v15)";
-
-/// A text up to its entries.
-const ENTRIES: &str =
-    "Ops a:0 Automaton A States q Final States Transitions Approximation N States Rules [a -> q] -> [";
 
 /// Texts of which a token passes a limit, some with what else would fit there, and their faults.
-fn past_limits(alloc: Global) -> Result<Vec<(String, &'static str)>, AllocError> {
-    let symbols = numbered(alloc, "Ops", "s", ":0", 4096)?;
-    let states = numbered(alloc, "Automaton A States", "q", "", 16384)?;
-    let rules = many(alloc, "Ops a:0 TRS R", "\na -> a", 4096)?;
-    let long = many(alloc, "", "b", 256)?;
-    let rows = vec![in alloc;
-        (
-            format!(in alloc; "Ops\n{long}")?,
-            "line 2 column 1: Limit name-bytes 255",
-        ),
-        (
-            format!(in alloc; "{symbols}\n{long}")?,
-            "line 4098 column 1: Limit name-bytes 255",
-        ),
-        (
-            many(alloc, "Ops f:", "1", 256)?,
-            "line 1 column 7: Limit name-bytes 255",
-        ),
-        (
-            format!(in alloc; "Ops f:1 TRS R f {long}")?,
-            "line 1 column 17: WrongArity",
-        ),
-        (
-            format!(in alloc; "{symbols}\nt:0")?,
-            "line 4098 column 1: Limit symbols 4096",
-        ),
-        (
-            format!(in alloc; "{symbols}\ns0:0")?,
-            "line 4098 column 1: Limit symbols 4096",
-        ),
-        (
-            numbered(alloc, "Vars", "v", "", 1025)?,
-            "line 1026 column 1: Limit declared 1024",
-        ),
-        (
-            many(alloc, "Ops g:1 TRS R", "\ng(", 101)?,
-            "line 102 column 1: Limit nesting 100",
-        ),
-        (
-            format!(in alloc; "{SEVENTEEN} TRS R f({SIXTEEN},\nv16)")?,
-            "line 2 column 1: Limit variables 16",
-        ),
-        (
-            format!(in alloc; "{SEVENTEEN} TRS R {SIXTEEN} ->\nv16")?,
-            "line 2 column 1: Limit variables 16",
-        ),
-        (
-            format!(in alloc; "{SEVENTEEN} Equations E Rules {SIXTEEN} =\nv16")?,
-            "line 2 column 1: Limit variables 16",
-        ),
-        (
-            format!(in alloc;
-                "{SEVENTEEN} {AUTOMATON} Approximation N States Rules [{SIXTEEN} -> q] -> [f(v0,\nv16)"
-            )?,
-            "line 2 column 1: Limit variables 16",
-        ),
-        (
-            format!(in alloc; "{rules}\na -> a")?,
-            "line 4098 column 1: Limit rules 4096",
-        ),
-        (
-            format!(in alloc; "{rules}\nz -> a")?,
-            "line 4098 column 1: Limit rules 4096",
-        ),
-        (
-            many(alloc, "Ops a:0 Equations E Rules", "\na = a", 1025)?,
-            "line 1026 column 1: Limit equations 1024",
-        ),
-        (
-            many(alloc, ENTRIES, "\na -> q", 1025)?,
-            "line 1026 column 1: Limit entries 1024",
-        ),
-        (
-            format!(in alloc; "{states}\np")?,
-            "line 16386 column 1: Limit states 16384",
-        ),
-        (
-            format!(in alloc; "{states}\nFinal States Transitions Approximation N States\nk")?,
-            "line 16387 column 1: Limit states 16384",
-        ),
-    ]?;
-    Ok(rows)
-}
+const PAST_LIMITS: [(Long, &str); 18] = [
+    (
+        Long {
+            head: "Ops\n",
+            piece: "b",
+            numbered: false,
+            end: "",
+            count: 256,
+            tail: "",
+        },
+        "line 2 column 1: Limit name-bytes 255",
+    ),
+    (
+        Long {
+            head: "Ops",
+            piece: "\ns",
+            numbered: true,
+            end: ":0",
+            count: 4096,
+            tail: "\nbbbbbbbbbbbbbbbbbbbbbbbbbbbbbbbbbbbbbbbbbbbbbbbbbbbbbbbbbbbbbbbbbbbbbbbbbbbbbbbbbbbbbbbbbbbbbbbbbbbbbbbbbbbbbbbbbbbbbbbbbbbbbbbbbbbbbbbbbbbbbbbbbbbbbbbbbbbbbbbbbbbbbbbbbbbbbbbbbbbbbbbbbbbbbbbbbbbbbbbbbbbbbbbbbbbbbbbbbbbbbbbbbbbbbbbbbbbbbbbbbbbbbbbbbbbbbbbb",
+        },
+        "line 4098 column 1: Limit name-bytes 255",
+    ),
+    (
+        Long {
+            head: "Ops f:",
+            piece: "1",
+            numbered: false,
+            end: "",
+            count: 256,
+            tail: "",
+        },
+        "line 1 column 7: Limit name-bytes 255",
+    ),
+    (
+        Long {
+            head: "Ops f:1 TRS R f ",
+            piece: "b",
+            numbered: false,
+            end: "",
+            count: 256,
+            tail: "",
+        },
+        "line 1 column 17: WrongArity",
+    ),
+    (
+        Long {
+            head: "Ops",
+            piece: "\ns",
+            numbered: true,
+            end: ":0",
+            count: 4096,
+            tail: "\nt:0",
+        },
+        "line 4098 column 1: Limit symbols 4096",
+    ),
+    (
+        Long {
+            head: "Ops",
+            piece: "\ns",
+            numbered: true,
+            end: ":0",
+            count: 4096,
+            tail: "\ns0:0",
+        },
+        "line 4098 column 1: Limit symbols 4096",
+    ),
+    (
+        Long {
+            head: "Vars",
+            piece: "\nv",
+            numbered: true,
+            end: "",
+            count: 1024,
+            tail: "\nx",
+        },
+        "line 1026 column 1: Limit declared 1024",
+    ),
+    (
+        Long {
+            head: "Ops g:1 TRS R",
+            piece: "\ng(",
+            numbered: false,
+            end: "",
+            count: 101,
+            tail: "",
+        },
+        "line 102 column 1: Limit nesting 100",
+    ),
+    (
+        Long {
+            head: "Ops a:0 f:2 h:16 Vars v0 v1 v2 v3 v4 v5 v6 v7 v8 v9 v10 v11 v12 v13 v14 v15 v16",
+            piece: " ",
+            numbered: false,
+            end: "",
+            count: 1,
+            tail: "TRS R f(h(v0,v1,v2,v3,v4,v5,v6,v7,v8,v9,v10,v11,v12,v13,v14,v15),\nv16)",
+        },
+        "line 2 column 1: Limit variables 16",
+    ),
+    (
+        Long {
+            head: "Ops a:0 f:2 h:16 Vars v0 v1 v2 v3 v4 v5 v6 v7 v8 v9 v10 v11 v12 v13 v14 v15 v16",
+            piece: " ",
+            numbered: false,
+            end: "",
+            count: 1,
+            tail: "TRS R h(v0,v1,v2,v3,v4,v5,v6,v7,v8,v9,v10,v11,v12,v13,v14,v15) ->\nv16",
+        },
+        "line 2 column 1: Limit variables 16",
+    ),
+    (
+        Long {
+            head: "Ops a:0 f:2 h:16 Vars v0 v1 v2 v3 v4 v5 v6 v7 v8 v9 v10 v11 v12 v13 v14 v15 v16",
+            piece: " ",
+            numbered: false,
+            end: "",
+            count: 1,
+            tail: "Equations E Rules h(v0,v1,v2,v3,v4,v5,v6,v7,v8,v9,v10,v11,v12,v13,v14,v15) =\nv16",
+        },
+        "line 2 column 1: Limit variables 16",
+    ),
+    (
+        Long {
+            head: "Ops a:0 f:2 h:16 Vars v0 v1 v2 v3 v4 v5 v6 v7 v8 v9 v10 v11 v12 v13 v14 v15 v16",
+            piece: " ",
+            numbered: false,
+            end: "",
+            count: 1,
+            tail: "Automaton A States q Final States Transitions Approximation N States Rules [h(v0,v1,v2,v3,v4,v5,v6,v7,v8,v9,v10,v11,v12,v13,v14,v15) -> q] -> [f(v0,\nv16)",
+        },
+        "line 2 column 1: Limit variables 16",
+    ),
+    (
+        Long {
+            head: "Ops a:0 TRS R",
+            piece: "\na -> a",
+            numbered: false,
+            end: "",
+            count: 4096,
+            tail: "\na -> a",
+        },
+        "line 4098 column 1: Limit rules 4096",
+    ),
+    (
+        Long {
+            head: "Ops a:0 TRS R",
+            piece: "\na -> a",
+            numbered: false,
+            end: "",
+            count: 4096,
+            tail: "\nz -> a",
+        },
+        "line 4098 column 1: Limit rules 4096",
+    ),
+    (
+        Long {
+            head: "Ops a:0 Equations E Rules",
+            piece: "\na = a",
+            numbered: false,
+            end: "",
+            count: 1025,
+            tail: "",
+        },
+        "line 1026 column 1: Limit equations 1024",
+    ),
+    (
+        Long {
+            head: "Ops a:0 Automaton A States q Final States Transitions Approximation N States Rules [a -> q] -> [",
+            piece: "\na -> q",
+            numbered: false,
+            end: "",
+            count: 1025,
+            tail: "",
+        },
+        "line 1026 column 1: Limit entries 1024",
+    ),
+    (
+        Long {
+            head: "Automaton A States",
+            piece: "\nq",
+            numbered: true,
+            end: "",
+            count: 16384,
+            tail: "\np",
+        },
+        "line 16386 column 1: Limit states 16384",
+    ),
+    (
+        Long {
+            head: "Automaton A States",
+            piece: "\nq",
+            numbered: true,
+            end: "",
+            count: 16384,
+            tail: "\nFinal States Transitions Approximation N States\nk",
+        },
+        "line 16387 column 1: Limit states 16384",
+    ),
+];
+
+/// Texts that go up to a limit, and no rule of which is open.
+const AT_LIMITS: [Long; 10] = [
+    Long {
+        head: "Ops a:0",
+        piece: "\ns",
+        numbered: true,
+        end: ":0",
+        count: 4095,
+        tail: " Automaton A States q Final States q Transitions a -> q",
+    },
+    Long {
+        head: "Ops a:0 Vars",
+        piece: "\nv",
+        numbered: true,
+        end: "",
+        count: 1024,
+        tail: " Automaton A States q Final States q Transitions a -> q",
+    },
+    Long {
+        head: "Ops a:0 ",
+        piece: "b",
+        numbered: false,
+        end: "",
+        count: 255,
+        tail: ":0 Automaton A States q Final States q Transitions a -> q",
+    },
+    Long {
+        head: "Ops a:0 h:",
+        piece: "0",
+        numbered: false,
+        end: "",
+        count: 253,
+        tail: "16 Automaton A States q Final States q Transitions a -> q",
+    },
+    Long {
+        head: "Ops a:0 TRS R",
+        piece: "\na -> a",
+        numbered: false,
+        end: "",
+        count: 4096,
+        tail: " Automaton A States q Final States q Transitions a -> q",
+    },
+    Long {
+        head: "Ops a:0 Equations E Rules",
+        piece: "\na = a",
+        numbered: false,
+        end: "",
+        count: 1024,
+        tail: " Automaton A States q Final States q Transitions a -> q",
+    },
+    Long {
+        head: "Ops a:0 f:2 h:16 Vars v0 v1 v2 v3 v4 v5 v6 v7 v8 v9 v10 v11 v12 v13 v14 v15 v16",
+        piece: " ",
+        numbered: false,
+        end: "",
+        count: 1,
+        tail: "TRS R h(v0,v1,v2,v3,v4,v5,v6,v7,v8,v9,v10,v11,v12,v13,v14,v15) -> a Automaton A States q Final States q Transitions a -> q",
+    },
+    Long {
+        head: "Ops a:0 g:1 TRS R ",
+        piece: "g(",
+        numbered: false,
+        end: "",
+        count: 100,
+        tail: "a)))))))))))))))))))))))))))))))))))))))))))))))))))))))))))))))))))))))))))))))))))))))))))))))))))) -> a Automaton A States q Final States q Transitions a -> q",
+    },
+    Long {
+        head: "Ops a:0 Automaton A States q Final States Transitions Approximation N States Rules [a -> q] -> [",
+        piece: "\na -> q",
+        numbered: false,
+        end: "",
+        count: 1024,
+        tail: "]",
+    },
+    Long {
+        head: "Automaton A States",
+        piece: "\nq",
+        numbered: true,
+        end: "",
+        count: 16384,
+        tail: " Final States Transitions",
+    },
+];
 
 #[test]
 fn texts_at_the_limits_are_read(rt: HostRuntime) -> Result<(), Fail> {
-    let alloc = rt.alloc();
-    let deep = many(alloc, "Ops a:0 g:1 TRS R ", "g(", 100)?;
-    let closing = many(alloc, "a", ")", 100)?;
-    let long = many(alloc, "", "b", 255)?;
-    let symbols = numbered(alloc, "Ops a:0", "s", ":0", 4095)?;
-    let variables = numbered(alloc, "Ops a:0 Vars", "v", "", 1024)?;
-    let rules = many(alloc, "Ops a:0 TRS R", "\na -> a", 4096)?;
-    let equations = many(alloc, "Ops a:0 Equations E Rules", "\na = a", 1024)?;
-    let entries = many(alloc, ENTRIES, "\na -> q", 1024)?;
-    let states = numbered(alloc, "Automaton A States", "q", "", 16384)?;
-    let texts = [
-        format!(in alloc; "{symbols}{AUTOMATON}")?,
-        format!(in alloc; "{variables}{AUTOMATON}")?,
-        format!(in alloc; "Ops a:0 {long}:0{AUTOMATON}")?,
-        format!(in alloc; "Ops a:0 h:016{AUTOMATON}")?,
-        format!(in alloc; "{rules}{AUTOMATON}")?,
-        format!(in alloc; "{equations}{AUTOMATON}")?,
-        format!(in alloc; "{SEVENTEEN} TRS R {SIXTEEN} -> a {AUTOMATON}")?,
-        format!(in alloc; "{deep}{closing} -> a {AUTOMATON}")?,
-        format!(in alloc; "{entries}]")?,
-        format!(in alloc; "{states} Final States Transitions")?,
-    ];
-    for text in texts.iter() {
-        let (status, sink) = complete(alloc, text.as_bytes())?;
+    for long in AT_LIMITS {
+        let text = long.text(rt.alloc())?;
+        let (status, sink) = complete(rt.alloc(), text.as_bytes())?;
         assert_eq!(rt; status, Status::Unreachable);
         assert_eq!(rt; sink.bytes(), b"Verdict unreachable\n".as_slice());
     }
