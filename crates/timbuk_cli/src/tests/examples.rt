@@ -57,61 +57,63 @@ const MERGED: &str = "Equations E\nRules\ns(x) = x\n";
 
 const ALL_ONE: &str = "Equations E\nRules\nx = y\n";
 
+/// What each example shows, the pieces of its text, and its verdict.
+const EXAMPLES: [(&str, &[&str], Status); 13] = [
+    ("even and odd numbers", &[EVEN_AND_ODD], Status::Unreachable),
+    (
+        "even numbers are forbidden",
+        &[FORBIDDEN_EVEN],
+        Status::Undecided,
+    ),
+    (
+        "a growing term, successors merged",
+        &[GROWING, MERGED, GROWING_FROM, NO_CONSTANT],
+        Status::Undecided,
+    ),
+    (
+        "a growing term",
+        &[GROWING, GROWING_FROM, NO_CONSTANT],
+        Status::Undecided,
+    ),
+    (
+        "a growing term, all terms merged",
+        &[GROWING, ALL_ONE, GROWING_FROM, NO_CONSTANT],
+        Status::Undecided,
+    ),
+    ("lists appended", &[APPEND], Status::Undecided),
+    (
+        "epsilon transitions in a circle",
+        &[CIRCLE],
+        Status::Unreachable,
+    ),
+    (
+        "an equation that takes back a rule",
+        &[TAKEN_BACK],
+        Status::Undecided,
+    ),
+    ("a term that doubles", &[DOUBLING], Status::Undecided),
+    (
+        "a growing term, approximated",
+        &[GROWING, GROWING_FROM, APPROXIMATION, NO_CONSTANT],
+        Status::Undecided,
+    ),
+    (
+        "a growing term, two successors forbidden",
+        &[GROWING, GROWING_FROM, NO_TWO],
+        Status::Undecided,
+    ),
+    ("one automaton alone", &[ALONE], Status::Unreachable),
+    (
+        "a text with every section",
+        &[EVERY_SECTION],
+        Status::Undecided,
+    ),
+];
+
 #[test]
 fn each_example_has_its_verdict(rt: HostRuntime) -> Result<(), Fail> {
     let alloc = rt.alloc();
-    let rows: [(&str, &[&str], Status); 13] = [
-        ("even and odd numbers", &[EVEN_AND_ODD], Status::Unreachable),
-        (
-            "even numbers are forbidden",
-            &[FORBIDDEN_EVEN],
-            Status::Undecided,
-        ),
-        (
-            "a growing term, successors merged",
-            &[GROWING, MERGED, GROWING_FROM, NO_CONSTANT],
-            Status::Undecided,
-        ),
-        (
-            "a growing term",
-            &[GROWING, GROWING_FROM, NO_CONSTANT],
-            Status::Undecided,
-        ),
-        (
-            "a growing term, all terms merged",
-            &[GROWING, ALL_ONE, GROWING_FROM, NO_CONSTANT],
-            Status::Undecided,
-        ),
-        ("lists appended", &[APPEND], Status::Undecided),
-        (
-            "epsilon transitions in a circle",
-            &[CIRCLE],
-            Status::Unreachable,
-        ),
-        (
-            "an equation that takes back a rule",
-            &[TAKEN_BACK],
-            Status::Undecided,
-        ),
-        ("a term that doubles", &[DOUBLING], Status::Undecided),
-        (
-            "a growing term, approximated",
-            &[GROWING, GROWING_FROM, APPROXIMATION, NO_CONSTANT],
-            Status::Undecided,
-        ),
-        (
-            "a growing term, two successors forbidden",
-            &[GROWING, GROWING_FROM, NO_TWO],
-            Status::Undecided,
-        ),
-        ("one automaton alone", &[ALONE], Status::Unreachable),
-        (
-            "a text with every section",
-            &[EVERY_SECTION],
-            Status::Undecided,
-        ),
-    ];
-    for (shows, pieces, verdict) in rows {
+    for (shows, pieces, verdict) in EXAMPLES {
         let mut text = String::new(alloc);
         for piece in pieces {
             text.push_str(piece)?;
