@@ -5,7 +5,7 @@ use std::alloc::{AllocError, Global};
 use std::test::Fail;
 
 /// What each text shows, the text, and its fault.
-const FAULTS: [(&str, &str, &str); 79] = [
+const FAULTS: &[(&str, &str, &str)] = &[
     ("a dash alone", "Ops a:0 -\n", "line 1 column 9: BadByte"),
     (
         "a byte that begins no token",
@@ -393,13 +393,13 @@ const FAULTS: [(&str, &str, &str); 79] = [
 
 #[test]
 fn faults_are_told_with_their_kind_and_place(rt: HostRuntime) -> Result<(), Fail> {
-    for (shows, text, fault) in FAULTS {
+    for (shows, text, fault) in FAULTS.iter() {
         let told = format!(in rt.alloc(); "Bad specification {fault}\n")?;
         let (status, sink) = complete(rt.alloc(), text.as_bytes())?;
         assert_eq!(rt; status, Status::BadSpec, "{shows}");
         assert_eq!(rt; sink.bytes(), told.as_bytes(), "{shows}");
     }
-    for (long, fault) in PAST_LIMITS {
+    for (long, fault) in PAST_LIMITS.iter() {
         let told = format!(in rt.alloc(); "Bad specification {fault}\n")?;
         let text = long.text(rt.alloc())?;
         let (status, sink) = complete(rt.alloc(), text.as_bytes())?;
@@ -438,7 +438,7 @@ impl Long {
 }
 
 /// Texts of which a token passes a limit, some with what else would fit there, and their faults.
-const PAST_LIMITS: [(Long, &str); 18] = [
+const PAST_LIMITS: &[(Long, &str)] = &[
     (
         Long {
             head: "Ops\n",
@@ -640,7 +640,7 @@ const PAST_LIMITS: [(Long, &str); 18] = [
 ];
 
 /// Texts that go up to a limit, and no rule of which is open.
-const AT_LIMITS: [Long; 10] = [
+const AT_LIMITS: &[Long] = &[
     Long {
         head: "Ops a:0",
         piece: "\ns",
@@ -725,7 +725,7 @@ const AT_LIMITS: [Long; 10] = [
 
 #[test]
 fn texts_at_the_limits_are_read(rt: HostRuntime) -> Result<(), Fail> {
-    for long in AT_LIMITS {
+    for long in AT_LIMITS.iter() {
         let text = long.text(rt.alloc())?;
         let (status, sink) = complete(rt.alloc(), text.as_bytes())?;
         assert_eq!(rt; status, Status::Unreachable);
