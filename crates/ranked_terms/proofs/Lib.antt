@@ -3,3 +3,4 @@ mod SignatureLemmas
 pub mod TermLaws
 pub mod InstanceLaws
 pub mod VariableLaws
+pub mod Listings

@@ -18,7 +18,8 @@ use Rattle.ranked_terms.specs.declared.term.Pattern.TheFolds.{fold-Pattern, fold
 use Rattle.ranked_terms.specs.declared.term.Config.{Config}
 use Rattle.ranked_terms.specs.declared.term.Config.TheVariants as config
 use Rattle.ranked_terms.specs.declared.term.Config.TheOpen as config_layer
-use Rattle.ranked_terms.specs.declared.term.Config.TheViews.{out-Config, out-roll-Config}
+use Rattle.ranked_terms.specs.declared.term.Config.TheViews.{roll-Config, out-Config, out-roll-Config}
+use Rattle.ranked_terms.specs.declared.term.Config.TheFolds.{ind-Config, map-Config}
 
 -- ---- ground terms
 
@@ -77,6 +78,14 @@ module _ (P : Pattern → Type 0) (var : (v : ℕ) → P (Var v)) (app : (f : �
 
   pub pattern_induction : (p : Pattern) → P p
   pattern_induction = ind-Pattern P (λ x y is. subst (λ (z : Pattern-F Pattern). P (roll-Pattern z)) is (at_layer y))
+
+module _ (P : Config → Type 0) (state : (q : ℕ) → P (config.State q)) (app : (f : ℕ) (cs : List Config) → AllByRecursion P cs → P (config.App f cs)) where
+  at_config_layer : (y : config_layer.Config-F ((c : Config) × P c)) → P (roll-Config (map-Config ((c : Config) × P c) Config (λ e. e.0) y))
+  at_config_layer (config_layer.State q) = subst P (sym (config.rolls-State q)) (state q)
+  at_config_layer (config_layer.App f cs) = subst P (sym (config.rolls-App f (map (λ e. e.0) cs))) (app f (map (λ e. e.0) cs) (each_such P cs))
+
+  pub config_induction : (c : Config) → P c
+  config_induction = ind-Config P (λ x y is. subst (λ (z : config_layer.Config-F Config). P (roll-Config z)) is (at_config_layer y))
 
 -- ---- patterns
 

@@ -20,7 +20,7 @@ use Rattle.ta_core.proofs.Places.{nothing_ascends}
 
 -- ---- lists that ascend
 
-ascends-append : {X : Type 0} (c : X → X → Ordering) (xs ys : List X) → IsStrictlySortedBy c xs → IsStrictlySortedBy c ys →
+pub ascends-append : {X : Type 0} (c : X → X → Ordering) (xs ys : List X) → IsStrictlySortedBy c xs → IsStrictlySortedBy c ys →
     ((x y : X) → Contains xs x → Contains ys y → c x y ≡ Less) → IsStrictlySortedBy c (xs ++ ys)
 unfolding IsStrictlySortedBy
 ascends-append c [] ys s t h = t
@@ -29,14 +29,14 @@ ascends-append c (x ∷ xs) ys s t h =
     (recursion_from_All (λ y. c x y ≡ Less) (xs ++ ys) below, ascends-append c xs ys s.1 t (λ a b i j. h a b (there x a xs i) j))
 
 module _ {X Y : Type 0} (c : X → X → Ordering) (e : Y → Y → Ordering) where
-  ascends-map : (f : X → Y) → ((x y : X) → c x y ≡ Less → e (f x) (f y) ≡ Less) → (xs : List X) → IsStrictlySortedBy c xs → IsStrictlySortedBy e (map f xs)
+  pub ascends-map : (f : X → Y) → ((x y : X) → c x y ≡ Less → e (f x) (f y) ≡ Less) → (xs : List X) → IsStrictlySortedBy c xs → IsStrictlySortedBy e (map f xs)
   unfolding IsStrictlySortedBy
   ascends-map f keeps [] s = nothing_ascends e
   ascends-map f keeps (x ∷ xs) s =
       let above : All (λ y. e (f x) (f y) ≡ Less) xs = All-weaker (λ y. c x y ≡ Less) (λ y. e (f x) (f y) ≡ Less) (keeps x) xs (All-from_recursion (λ y. c x y ≡ Less) xs s.0) in
       (recursion_from_All (λ y. e (f x) y ≡ Less) (map f xs) (All-map (λ y. e (f x) y ≡ Less) f xs above), ascends-map f keeps xs s.1)
 
-  ascends-flat_map : (f : X → List Y) → ((x : X) → IsStrictlySortedBy e (f x)) → ((x y : X) (a b : Y) → c x y ≡ Less → Contains (f x) a → Contains (f y) b → e a b ≡ Less) →
+  pub ascends-flat_map : (f : X → List Y) → ((x : X) → IsStrictlySortedBy e (f x)) → ((x y : X) (a b : Y) → c x y ≡ Less → Contains (f x) a → Contains (f y) b → e a b ≡ Less) →
       (xs : List X) → IsStrictlySortedBy c xs → IsStrictlySortedBy e (flat_map f xs)
   unfolding IsStrictlySortedBy
   ascends-flat_map f each cross [] s = nothing_ascends e
@@ -47,10 +47,10 @@ module _ {X Y : Type 0} (c : X → X → Ordering) (e : Y → Y → Ordering) wh
 
 -- ---- what decides
 
-first_decides : (r s : Ordering) → r ≡ Less → ordering_then r s ≡ Less
+pub first_decides : (r s : Ordering) → r ≡ Less → ordering_then r s ≡ Less
 first_decides r s e = ap (λ r. ordering_then r s) e
 
-second_decides : {K : Type 0} {c : K → K → Ordering} → IsTotalOrder c → (x : K) (s : Ordering) → s ≡ Less → ordering_then (c x x) s ≡ Less
+pub second_decides : {K : Type 0} {c : K → K → Ordering} → IsTotalOrder c → (x : K) (s : Ordering) → s ≡ Less → ordering_then (c x x) s ≡ Less
 second_decides o x s e = ap (λ r. ordering_then r s) (tied_itself o x) ∙ e
 
 -- ---- assignments and triples

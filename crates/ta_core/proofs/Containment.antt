@@ -9,8 +9,9 @@ use Rattle.ranked_terms.specs.declared.term.Config.{Config, State, App}
 use Rattle.ranked_terms.proofs.TermLaws.{config_node, term_induction}
 use Rattle.ta_core.specs.TreeAutomaton.{TreeAutomaton, IsSound, IsTransOf, IsEpsOf, trans_of}
 use Rattle.ta_core.specs.Runs.{Runs, RunsAll, Reaches}
-use Rattle.ta_core.specs.Acceptance.{IsContained, image}
+use Rattle.ta_core.specs.Acceptance.{IsContained, StateHolds, TransHolds, EpsHolds, FinalHolds, image}
 use Rattle.ta_core.specs.AcceptanceLaws.{ContainedKeepsRuns, ContainedKeepsAccepted, ContainsItself}
+use Rattle.ta_core.proofs.Keys.{all_from_members}
 use Rattle.ta_core.proofs.Members.{here, there}
 use Rattle.ta_core.proofs.RunsLaws.{run_of_app, run_of_state, reached, all_from_zip, zip_from_all}
 
@@ -23,7 +24,7 @@ images h qs = map (λ p. State (image h p)) qs
 module _ {A₀ A : TreeAutomaton} {h : List ℕ} (contained : IsContained A₀ A h) where
   reaches_on : {p q : ℕ} → Reaches A₀ p q → (c : Config) → Runs A c (image h p) → Runs A c (image h q)
   reaches_on Reaches.here c r = r
-  reaches_on (Reaches.on {q = p} {r = q} before i) c r = reached (reaches_on before c r) (run_of_state (image h p) (image h q) (contained.eps p q i)).1
+  reaches_on (Reaches.on {q = p} {r = q} before i) c r = reached (reaches_on before c r) (run_of_state (image h p) (image h q) (All-contains (EpsHolds A h) A₀.eps (p, q) contained.eps i)).1
 
   abbrev IsKept : Term → Type 0
   IsKept t = (q : ℕ) → Runs A₀ (config_of t) q → Runs A (config_of t) (image h q)
@@ -40,7 +41,7 @@ module _ {A₀ A : TreeAutomaton} {h : List ℕ} (contained : IsContained A₀ A
   node_kept : (f : ℕ) (ts : List Term) → AllByRecursion IsKept ts → IsKept (node f ts)
   node_kept f ts each q r =
       let run = run_of_app f (map config_of ts) q (subst (λ c. Runs A₀ c q) (config_node f ts) r) in
-      let mapped = run_of_app f (images h run.states) (image h run.target) (contained.trans f run.states run.target run.has) in
+      let mapped = run_of_app f (images h run.states) (image h run.target) (All-contains (TransHolds A h) A₀.trans (trans_of f run.states run.target) contained.trans run.has) in
       let args = all_kept ts run.states mapped.states each (zip_from_all run.args) (zip_from_all mapped.args) in
       let first : Runs A (App f (map config_of ts)) (image h run.target) = reached (Runs.app (all_from_zip (map config_of ts) mapped.states args) mapped.has) mapped.on in
       subst (λ c. Runs A c (image h q)) (sym (config_node f ts)) (reaches_on run.on (App f (map config_of ts)) first)
@@ -53,7 +54,7 @@ contained_keeps_runs A₀ A h contained t q r = kept contained t q r
 
 pub contained_keeps_accepted : ContainedKeepsAccepted
 contained_keeps_accepted A₀ A h contained t accepts =
-    record { state = image h accepts.state; runs = kept contained t accepts.state accepts.runs; final = contained.finals accepts.state accepts.final }
+    record { state = image h accepts.state; runs = kept contained t accepts.state accepts.runs; final = All-contains (FinalHolds A h) A₀.finals accepts.state contained.finals accepts.final }
 
 -- ---- each automaton contains itself
 
@@ -80,15 +81,15 @@ module _ (A : TreeAutomaton) (sound : IsSound A) where
 
   itself : IsContained A A same
   itself = record {
-    each_state = length-range_with_len 0 A.next;
-    states = λ q c. subst (Contains A.states) (sym (state_stays q c)) c;
-    trans = λ f qs q i.
-        let is = All-contains (IsTransOf A.states) A.trans (trans_of f qs q) sound.trans i in
-        to_same (App f (images same qs)) q is.to (Runs.app (states_run qs (λ p c. All-contains (Contains A.states) qs p is.args c)) i);
-    eps = λ p q i.
-        let is = All-contains (IsEpsOf A.states) A.eps (p, q) sound.eps i in
-        to_same (State (image same p)) q is.to (Runs.step (state_runs p is.from) i);
-    finals = λ q i. subst (Contains A.finals) (sym (state_stays q (All-contains (Contains A.states) A.finals q sound.finals i))) i;
+    each_state = omega (arith, length-range_with_len 0 A.next);
+    states = all_from_members (StateHolds A same) A.states (λ q c. subst (Contains A.states) (sym (state_stays q c)) c);
+    trans = all_from_members (TransHolds A same) A.trans (λ t i.
+        let is = All-contains (IsTransOf A.states) A.trans t sound.trans i in
+        to_same (App t.sym (images same t.args)) t.to is.to (Runs.app (states_run t.args (λ p c. All-contains (Contains A.states) t.args p is.args c)) i));
+    eps = all_from_members (EpsHolds A same) A.eps (λ e i.
+        let is = All-contains (IsEpsOf A.states) A.eps e sound.eps i in
+        to_same (State (image same e.0)) e.1 is.to (Runs.step (state_runs e.0 is.from) i));
+    finals = all_from_members (FinalHolds A same) A.finals (λ q i. subst (Contains A.finals) (sym (state_stays q (All-contains (Contains A.states) A.finals q sound.finals i))) i);
   }
 
 pub contains_itself : ContainsItself

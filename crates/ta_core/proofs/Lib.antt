@@ -10,5 +10,7 @@ pub mod Ascending
 pub mod Lookups
 pub mod ReachedSets
 pub mod RunStates
+pub mod Decided
+pub mod OpenLists
 pub mod Containment
 pub mod Acceptance

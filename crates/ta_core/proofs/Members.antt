@@ -11,24 +11,8 @@ use Rattle.std.proofs.lemmas.Cmp.{tied_itself}
 use Rattle.std.proofs.lemmas.Map.Lookups.{CmpEqualImpliesEq}
 use Rattle.std.proofs.lemmas.Map.Keys.{below_from_sorted}
 use Rattle.std.proofs.lemmas.Map.Views.{tells_apart, exact_unsigned_eq}
+pub use Rattle.ranked_terms.proofs.Listings.{here, there, parts, none}
 use Rattle.ta_core.specs.Orders.{has}
-
-module _ {X : Type 0} where
-  pub here : (x : X) (xs : List X) → Contains (x ∷ xs) x
-  here x xs = (0, omega arith, refl)
-
-  pub there : (x y : X) (xs : List X) → Contains xs y → Contains (x ∷ xs) y
-  there x y xs c = (suc c.0, omega (arith, c.1), c.2)
-
-  pub parts : (x y : X) (xs : List X) → Contains (x ∷ xs) y → (x ≡ y) ⊎ Contains xs y
-  parts x y xs c = go c.0 c.1 c.2
-    where
-      go : (k : ℕ) → k < length (x ∷ xs) → get_or (x ∷ xs) k y ≡ y → (x ≡ y) ⊎ Contains xs y
-      go zero l e = inl e
-      go (suc k) l e = inr (k, omega arith, e)
-
-  pub none : (y : X) → Contains [] y → ⊥
-  none y c = omega (arith, c.1)
 
 module _ {K : Type 0} {R : K → K → Ordering} (o : IsTotalOrder R) (exact : CmpEqualImpliesEq R) where
   pub contains_from_has : (xs : List K) (k : K) → has R xs k ≡ true → Contains xs k

@@ -16,7 +16,7 @@ use Rattle.ta_core.proofs.RunsLaws.{run_ends}
 -- ---- members
 
 module _ {X Y : Type 0} where
-  map_has : (f : X → Y) (xs : List X) (x : X) (y : Y) → Contains xs x → f x ≡ y → Contains (map f xs) y
+  pub map_has : (f : X → Y) (xs : List X) (x : X) (y : Y) → Contains xs x → f x ≡ y → Contains (map f xs) y
   map_has f [] x y c e = absurd (none x c)
   map_has f (z ∷ xs) x y c e =
       ⊎_elim (λ same. subst (Contains (f z ∷ map f xs)) (ap f same ∙ e) (here (f z) (map f xs))) (λ later. there (f z) y (map f xs) (map_has f xs x y later e)) (parts z x xs c)
@@ -26,7 +26,7 @@ module _ {X Y : Type 0} where
   map_had f (x ∷ xs) y c =
       ⊎_elim (λ same. (x, here x xs, same)) (λ later. let h = map_had f xs y later in (h.0, there x h.0 xs h.1, h.2)) (parts (f x) y (map f xs) c)
 
-  flat_map_has : (f : X → List Y) (xs : List X) (x : X) (y : Y) → Contains xs x → Contains (f x) y → Contains (flat_map f xs) y
+  pub flat_map_has : (f : X → List Y) (xs : List X) (x : X) (y : Y) → Contains xs x → Contains (f x) y → Contains (flat_map f xs) y
   flat_map_has f [] x y c d = absurd (none x c)
   flat_map_has f (z ∷ xs) x y c d =
       ⊎_elim (λ same. Contains-append_left (f z) (flat_map f xs) y (subst (λ w. Contains (f w) y) (sym same) d))
@@ -120,7 +120,7 @@ triples_are_all A R pair = (is_triple A R pair, triple_in A R pair)
 same_rule : (R : List RewriteRule) (i : ℕ) (a b : RewriteRule) → slice_get R i ≡ Some a → slice_get R i ≡ Some b → a ≡ b
 same_rule R i a b e h = let k : Some a ≡ Some b = sym e ∙ h in cc
 
-not_both : (A : TreeAutomaton) (R : List RewriteRule) (pair : Pair) → IsOpen A R pair → IsSettled A R pair → ⊥
+pub not_both : (A : TreeAutomaton) (R : List RewriteRule) (pair : Pair) → IsOpen A R pair → IsSettled A R pair → ⊥
 not_both A R pair o s =
     let same = same_rule R pair.rule o.rule s.rule o.is_rule s.is_rule in
     let left = subst (λ r. Runs A (assigned_by r pair.sigma r.left) pair.state) same o.left in

@@ -96,7 +96,7 @@ take_found : (xs : List ℕ) (at x : ℕ) → slice_get xs at ≡ Some x → tak
 take_found xs at x found = take_more xs at 0 (slice_get_within xs at x found) ∙ ap (λ y. take at xs ++ y ∷ []) (get_or_from_slice_get xs at x 0 found)
 
 -- a set that nothing leads out of has all that is reached from it
-holds_reached : {A : TreeAutomaton} (set : List ℕ) → ((p q : ℕ) → Contains A.eps (p, q) → Contains set p → Contains set q) → {p q : ℕ} → Contains set p → Reaches A p q → Contains set q
+pub holds_reached : {A : TreeAutomaton} (set : List ℕ) → ((p q : ℕ) → Contains A.eps (p, q) → Contains set p → Contains set q) → {p q : ℕ} → Contains set p → Reaches A p q → Contains set q
 holds_reached set out c Reaches.here = c
 holds_reached set out c (Reaches.on h i) = out _ _ i (holds_reached set out c h)
 

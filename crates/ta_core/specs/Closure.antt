@@ -2,6 +2,7 @@
 -- Tong, JAR 2004, where an open pair is a critical pair that isn't joined; the order of the pairs is this project's own).
 use Rattle.std.specs.Prelude.{◌≡◌, ℕ, zero, suc, ◌+◌, ◌==◌, List, [], ◌∷◌, ◌++◌, Some, map, length, slice_index, All, Contains}
 use Rattle.std.specs.List.{slice_get, position_or_len, flat_map}
+use Rattle.ranked_terms.specs.Listings.{IsFirst}
 use Rattle.ranked_terms.specs.Terms.{assigned}
 use Rattle.ranked_terms.specs.declared.term.Pattern.{Pattern}
 use Rattle.ranked_terms.specs.declared.term.Config.{Config}
@@ -44,6 +45,11 @@ pub record IsOpen (A : TreeAutomaton) (R : List RewriteRule) (pair : Pair) : Typ
   pub left : Runs A (assigned_by rule pair.sigma rule.left) pair.state
   pub right : Runs A (assigned_by rule pair.sigma rule.right) pair.state → ⊥
 
+-- a triple that is open
+pub record IsOpenTriple (A : TreeAutomaton) (R : List RewriteRule) (pair : Pair) : Type 0 where
+  pub triple : IsTriple A R pair
+  pub is_open : IsOpen A R pair
+
 -- the right side runs to the state if the left side does
 pub record IsSettled (A : TreeAutomaton) (R : List RewriteRule) (pair : Pair) : Type 0 where
   pub rule : RewriteRule
@@ -73,3 +79,7 @@ pub data OpenAmong (A : TreeAutomaton) (R : List RewriteRule) : List Pair → Li
 -- the list of open pairs
 abbrev pub AreOpenPairs : TreeAutomaton → List RewriteRule → List Pair → Type 0
 AreOpenPairs A R pairs = OpenAmong A R (triples_from A 0 R) pairs
+
+-- the first open one of the triples, in their order
+abbrev pub IsFirstOpen : TreeAutomaton → List RewriteRule → Pair → Type 0
+IsFirstOpen A R pair = IsFirst (IsOpen A R) (IsSettled A R) (triples_from A 0 R) pair

@@ -1,9 +1,14 @@
 -- Laws of runs, each stated for every automaton.
-use Rattle.std.specs.Prelude.{◌↔◌, ℕ, List, []}
+use Rattle.std.specs.Prelude.{◌⊎◌, ◌↔◌, ℕ, List, []}
 use Rattle.std.specs.List.{Contains, AllZip}
+use Rattle.std.specs.Ordering.{nat_cmp}
+use Rattle.ranked_terms.specs.Listings.{IsListing}
+use Rattle.ranked_terms.specs.Names.{Symbol}
+use Rattle.ranked_terms.specs.declared.term.Term.{Term}
 use Rattle.ranked_terms.specs.declared.term.Config.{Config, State, App}
 use Rattle.ta_core.specs.TreeAutomaton.{TreeAutomaton, IsSound, trans_of}
 use Rattle.ta_core.specs.Runs.{Runs, RunsPlain}
+use Rattle.ta_core.specs.Languages.{Language}
 
 -- the relation has what the three cases of a run make of it
 pub record IsClosed (A : TreeAutomaton) (P : Config → ℕ → Type 0) : Type 0 where
@@ -40,3 +45,21 @@ RunsAreMonotone = (A B : TreeAutomaton) → IsWithin A B → (c : Config) (q : �
 -- a run ends in a state of the automaton
 abbrev pub RunsEndInStates : Type 0
 RunsEndInStates = (A : TreeAutomaton) → IsSound A → (c : Config) (q : ℕ) → Runs A c q → Contains A.states q
+
+-- the states to which a configuration runs are an ascending list
+abbrev pub RunsAreListed : Type 0
+RunsAreListed = (A : TreeAutomaton) (c : Config) → (states : List ℕ) × IsListing nat_cmp (Runs A c) states
+
+abbrev pub PlainRunsAreListed : Type 0
+PlainRunsAreListed = (A : TreeAutomaton) (c : Config) → (states : List ℕ) × IsListing nat_cmp (RunsPlain A c) states
+
+-- so a configuration runs to a state or doesn't
+abbrev pub RunsAreDecided : Type 0
+RunsAreDecided = (A : TreeAutomaton) (c : Config) (q : ℕ) → Runs A c q ⊎ (Runs A c q → ⊥)
+
+abbrev pub PlainRunsAreDecided : Type 0
+PlainRunsAreDecided = (A : TreeAutomaton) (c : Config) (q : ℕ) → RunsPlain A c q ⊎ (RunsPlain A c q → ⊥)
+
+-- and a ground term is in a language or isn't
+abbrev pub LanguagesAreDecided : Type 0
+LanguagesAreDecided = (signature : List Symbol) (A : TreeAutomaton) (t : Term) → Language signature A t ⊎ (Language signature A t → ⊥)

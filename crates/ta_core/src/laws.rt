@@ -1,7 +1,7 @@
 //! Laws of runs. Each function does nothing: its contract is the law.
 ghost use Rattle.ta_core.specs.AcceptanceLaws.{ContainedKeepsRuns, ContainedKeepsAccepted, ContainsItself, AcceptedTermsAreOver, AcceptedIsSafe};
-ghost use Rattle.ta_core.specs.ClosureLaws.{InstancesFactor, InstancesCompose, ClosedKeepsRuns, ClosedAcceptsReached, ClosedByLists, ClosedHasNoOpenPair, OpenPairsAreOne, TriplesAreAll, TriplesAscend};
-ghost use Rattle.ta_core.specs.Laws.{RunsAreClosed, HasEachRun, PlainRunsAreRuns, PlainRunsUseNoEpsilon, RunsAreMonotone, RunsEndInStates};
+ghost use Rattle.ta_core.specs.ClosureLaws.{InstancesFactor, InstancesCompose, ClosedKeepsRuns, ClosedAcceptsReached, ClosedByLists, ClosedHasNoOpenPair, OpenPairsAreOne, TriplesAreAll, TriplesAscend, TriplesAreDecided, OpenPairsAreListed, OpenPairsAreOpenTriples, OpenPairsAreListing, FirstOpenIsHead, ClosedOrFirstOpen, FrontsBeginOpenPairs, MoreOpenAreLonger};
+ghost use Rattle.ta_core.specs.Laws.{RunsAreClosed, HasEachRun, PlainRunsAreRuns, PlainRunsUseNoEpsilon, RunsAreMonotone, RunsEndInStates, RunsAreListed, PlainRunsAreListed, RunsAreDecided, PlainRunsAreDecided, LanguagesAreDecided};
 
 use std::marker::Brand;
 
@@ -52,6 +52,16 @@ pub fn runs_end_in_states()
     ensures { RunsEndInStates }
 {}
 
+/// The states to which a configuration runs are an ascending list, by all runs and by those without epsilon transitions;
+/// so a configuration runs to a state or doesn't, and a ground term is in a language or isn't. This holds of every automaton.
+pub fn runs_are_decided()
+    ensures listed { RunsAreListed }
+    ensures plain_listed { PlainRunsAreListed }
+    ensures decided { RunsAreDecided }
+    ensures plain_decided { PlainRunsAreDecided }
+    ensures languages { LanguagesAreDecided }
+{}
+
 /// A run of an instance of a linear pattern goes by way of states for its variables, to which their terms run; and such
 /// states make a run of the instance of any pattern (Feuillade, Genet and Viet Triem Tong, JAR 2004).
 pub fn runs_of_instances_factor()
@@ -75,6 +85,21 @@ pub fn closed_automata_have_no_open_pair()
     ensures one { OpenPairsAreOne }
     ensures all { TriplesAreAll }
     ensures order { TriplesAscend }
+{}
+
+/// Each triple is open or settled, so there is a list of open pairs. It has exactly the open triples; where the states
+/// ascend it ascends, and whatever has exactly the open triples and ascends is this list. The first open triple is the
+/// head of the list; where there is none, an automaton is closed under left-linear rules. What comes first of the open
+/// triples begins the list, and where more than a number are open, the list is longer than that.
+pub fn open_pairs_are_listed()
+    ensures decided { TriplesAreDecided }
+    ensures listed { OpenPairsAreListed }
+    ensures exact { OpenPairsAreOpenTriples }
+    ensures listing { OpenPairsAreListing }
+    ensures first { FirstOpenIsHead }
+    ensures or_closed { ClosedOrFirstOpen }
+    ensures fronts { FrontsBeginOpenPairs }
+    ensures longer { MoreOpenAreLonger }
 {}
 
 /// What runs to a state of an automaton runs, in one that contains it, to the state that it goes to; so its language is

@@ -17,6 +17,6 @@ mod variables;
 
 pub use entry::Entry;
 pub use equation::Equation;
-pub use rule::{Rule, RuleFault};
+pub use rule::{Rule, RuleFault, each_is_rule};
 pub use sigma::{Pair, Sigma};
 pub use variables::TooManyVariables;

@@ -1,5 +1,5 @@
 //! Rewrite rules.
-ghost use Rattle.std.specs.Prelude.{◌≡◌, ◌↔◌, ◌<◌, ℕ, length, Err, Some, None, IfOk};
+ghost use Rattle.std.specs.Prelude.{◌≡◌, ◌↔◌, ◌<◌, ℕ, length, Err, Some, None, IfOk, All};
 ghost use Rattle.ranked_terms.specs.Terms.{occurrences, variables_of};
 ghost use Rattle.trs_rules.specs.Rules.{IsRule, IsVariable, IsLinear, IsBound};
 ghost use Rattle.trs_rules.specs.Variables.{first_repeat, first_free};
@@ -106,5 +106,14 @@ impl Rule {
         ensures rule { IsRule self.now }
     {
         self.variables.as_slice()
+    }
+}
+
+/// Each member of a slice of rules is a rule.
+pub fn each_is_rule(rules: &[Rule])
+    ensures { All IsRule rules.now }
+{
+    for rule in rules {
+        let _ = rule.vars();
     }
 }
