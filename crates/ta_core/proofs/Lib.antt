@@ -8,6 +8,7 @@ pub mod Closure
 pub mod OpenPairs
 pub mod Ascending
 pub mod Lookups
+pub mod Ranks
 pub mod ReachedSets
 pub mod RunStates
 pub mod Decided
