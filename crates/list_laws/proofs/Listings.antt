@@ -1,5 +1,5 @@
 -- Lists in ascending order: one list of whatever has a property, its fronts, and how long it is.
-use Rattle.std.proofs.Common.{◌≡◌, ◌≢◌, ◌⊎◌, ℕ, zero, suc, ◌<◌, ◌≤◌, Bool, true, false, ◌==◌, ◌||◌, List, [], ◌∷◌, ◌++◌, length, get_or, refl, sym, ap, ◌∙◌, subst, inl, inr, ⊎_elim, All, Contains, length-append, arith}
+use Rattle.std.proofs.Common.{◌≡◌, ◌≢◌, ◌⊎◌, ℕ, suc, ◌<◌, ◌≤◌, Bool, true, false, ◌==◌, ◌||◌, List, [], ◌∷◌, ◌++◌, length, get_or, refl, sym, ap, ◌∙◌, subst, inl, inr, ⊎_elim, All, Contains, length-append, arith}
 use Rattle.std.specs.declared.cmp.Ordering.{Ordering}
 use Rattle.std.specs.declared.cmp.Ordering.TheVariants.{Less}
 use Rattle.std.specs.Cmp.{IsTotalOrder}
@@ -11,26 +11,8 @@ use Rattle.std.proofs.lemmas.List.{append-nil, get_or_default}
 use Rattle.std.proofs.lemmas.List.Elements.{All-nil, All-cons, All-contains, All-from_recursion, All-head, All-tail, Contains-append_cases, Contains-append_right, Contains-get_or, recursion_from_All}
 use Rattle.std.proofs.lemmas.Map.Keys.{Less-from_sorted}
 use Rattle.std.proofs.lemmas.Map.Steps.{length-le_from_distinct_below}
-use Rattle.ranked_terms.specs.Listings.{IsListing, IsFront, HasMoreThan, IsFirst}
-
--- ---- members
-
-module _ {X : Type 0} where
-  pub here : (x : X) (xs : List X) → Contains (x ∷ xs) x
-  here x xs = (0, omega arith, refl)
-
-  pub there : (x y : X) (xs : List X) → Contains xs y → Contains (x ∷ xs) y
-  there x y xs c = (suc c.0, omega (arith, c.1), c.2)
-
-  pub parts : (x y : X) (xs : List X) → Contains (x ∷ xs) y → (x ≡ y) ⊎ Contains xs y
-  parts x y xs c = go c.0 c.1 c.2
-    where
-      go : (k : ℕ) → k < length (x ∷ xs) → get_or (x ∷ xs) k y ≡ y → (x ≡ y) ⊎ Contains xs y
-      go zero l e = inl e
-      go (suc k) l e = inr (k, omega arith, e)
-
-  pub none : (y : X) → Contains [] y → ⊥
-  none y c = omega (arith, c.1)
+use Rattle.list_laws.specs.Listings.{IsListing, IsFront, HasMoreThan, IsFirst}
+use Rattle.list_laws.proofs.Members.{here, there, parts, none}
 
 -- ---- lists that ascend
 

@@ -1,8 +1,10 @@
 -- The equations of what specs/Terms.antt defines, and inductions over terms and patterns whose arguments are plain lists.
+-- Nobody has to believe this: it is proved, for the proofs of the crates above.
 use Rattle.std.proofs.Common.{◌≡◌, ℕ, ◌+◌, Bool, true, ◌&&◌, List, [], ◌∷◌, map, sum, length, refl, sym, ap, subst, ◌∙◌}
 use Rattle.std.specs.List.{AllByRecursion, list_all}
 use Rattle.std.proofs.lemmas.List.{length-map}
 use Rattle.std.proofs.lemmas.List.Folds.{list_all-map}
+use Rattle.list_laws.proofs.Members.{not_empty, same_first, same_rest}
 use Rattle.ranked_terms.specs.Names.{Symbol}
 use Rattle.ranked_terms.specs.Terms.{node, size_of, size_step, height_of, height_step, greatest, is_symbol, is_over, is_over_step, pattern_is_over, pattern_is_over_step, instance_of, instance_step, assigned, assigned_step, config_of, config_step, joined, occurrences, occurrences_step}
 use Rattle.ranked_terms.specs.declared.term.Term.{Term}
@@ -35,10 +37,13 @@ height_node f ts = fold-roll-Term ℕ height_step (layer f ts)
 pub config_node : (f : ℕ) (ts : List Term) → config_of (node f ts) ≡ config.App f (map config_of ts)
 config_node f ts = fold-roll-Term Config config_step (layer f ts)
 
-pub is_over_node : (s : List Symbol) (f : ℕ) (ts : List Term) → is_over s (node f ts) ≡ (is_symbol s f (length ts) && list_all (is_over s) ts)
-is_over_node s f ts =
+pub over_node : (s : List Symbol) (f : ℕ) (ts : List Term) → is_over s (node f ts) ≡ (is_symbol s f (length ts) && list_all (λ b. b) (map (is_over s) ts))
+over_node s f ts =
     fold-roll-Term Bool (is_over_step s) (layer f ts)
-    ∙ (λ i. is_symbol s f (length-map ts (is_over s) i) && list_all-map (λ b. b) (is_over s) ts i)
+    ∙ ap (λ n. is_symbol s f n && list_all (λ b. b) (map (is_over s) ts)) (length-map ts (is_over s))
+
+pub is_over_node : (s : List Symbol) (f : ℕ) (ts : List Term) → is_over s (node f ts) ≡ (is_symbol s f (length ts) && list_all (is_over s) ts)
+is_over_node s f ts = over_node s f ts ∙ ap (λ b. is_symbol s f (length ts) && b) (list_all-map (λ b. b) (is_over s) ts)
 
 -- a term is its symbol and its arguments
 pub node_out : (t : Term) → node (out-Term t).sym (out-Term t).args ≡ t
@@ -117,10 +122,13 @@ occurrences_app f ps = pattern_app (List ℕ) occurrences_step f ps
 pub pattern_is_over_var : (s : List Symbol) (v : ℕ) → pattern_is_over s (Var v) ≡ true
 pattern_is_over_var s v = pattern_var Bool (pattern_is_over_step s) v
 
-pub pattern_is_over_app : (s : List Symbol) (f : ℕ) (ps : List Pattern) → pattern_is_over s (App f ps) ≡ (is_symbol s f (length ps) && list_all (pattern_is_over s) ps)
-pattern_is_over_app s f ps =
+pub over_app : (s : List Symbol) (f : ℕ) (ps : List Pattern) → pattern_is_over s (App f ps) ≡ (is_symbol s f (length ps) && list_all (λ b. b) (map (pattern_is_over s) ps))
+over_app s f ps =
     pattern_app Bool (pattern_is_over_step s) f ps
-    ∙ (λ i. is_symbol s f (length-map ps (pattern_is_over s) i) && list_all-map (λ b. b) (pattern_is_over s) ps i)
+    ∙ ap (λ n. is_symbol s f n && list_all (λ b. b) (map (pattern_is_over s) ps)) (length-map ps (pattern_is_over s))
+
+pub pattern_is_over_app : (s : List Symbol) (f : ℕ) (ps : List Pattern) → pattern_is_over s (App f ps) ≡ (is_symbol s f (length ps) && list_all (pattern_is_over s) ps)
+pattern_is_over_app s f ps = over_app s f ps ∙ ap (λ b. is_symbol s f (length ps) && b) (list_all-map (λ b. b) (pattern_is_over s) ps)
 
 -- ---- configurations
 
@@ -143,11 +151,11 @@ IsTold t = (u : Term) → config_of t ≡ config_of u → t ≡ u
 
 all_told : (ts us : List Term) → AllByRecursion IsTold ts → map config_of ts ≡ map config_of us → ts ≡ us
 all_told [] [] h e = refl
-all_told [] (u ∷ us) h e = cc
-all_told (t ∷ ts) [] h e = cc
+all_told [] (u ∷ us) h e = absurd (not_empty (config_of u) (map config_of us) e)
+all_told (t ∷ ts) [] h e = absurd (not_empty (config_of t) (map config_of ts) (sym e))
 all_told (t ∷ ts) (u ∷ us) h e =
-    let first : config_of t ≡ config_of u = cc in
-    let rest : map config_of ts ≡ map config_of us = cc in
+    let first = same_first (config_of t) (config_of u) (map config_of ts) (map config_of us) e in
+    let rest = same_rest (config_of t) (config_of u) (map config_of ts) (map config_of us) e in
     (λ i. h.0 u first i ∷ all_told ts us h.1 rest i)
 
 -- two ground terms that are one configuration are one term

@@ -1,17 +1,16 @@
 -- The list of the variables of a pattern has each once, in order of first occurrence.
-use Rattle.std.proofs.Common.{◌≡◌, ℕ, Bool, true, false, not, nat_eq, ◌==◌, ◌||◌, if◌then◌else◌, cond, List, [], ◌∷◌, ◌++◌, fold, filter, Contains, ◌⊎◌, inl, inr, refl, sym, ap, subst, ◌∙◌, true≢false, append-nil, arith}
+-- Nobody has to believe this: it is proved, for the proofs of the crates above.
+use Rattle.std.proofs.Common.{◌≡◌, ℕ, Bool, true, false, not, nat_eq, ◌==◌, ◌||◌, if◌then◌else◌, cond, List, [], ◌∷◌, ◌++◌, fold, filter, Contains, ◌⊎◌, inl, inr, refl, sym, ap, subst, ◌∙◌, true≢false, append-nil}
 use Rattle.std.specs.List.{IsDistinct, AllByRecursion, list_any}
 use Rattle.std.proofs.lemmas.Bool.{eqb-true, eq-eqb}
 use Rattle.std.proofs.lemmas.List.Elements.{Contains-append_left, Contains-append_right, Contains-append_cases, Contains-push, Contains-push_cases, filter-append}
 use Rattle.indexmap.proofs.CallerLemmas.{Contains-list_any}
+use Rattle.list_laws.proofs.Members.{none}
+use Rattle.list_laws.proofs.Tests.{neither}
 use Rattle.ranked_terms.specs.Terms.{with_variable, firsts, occurrences, variables_of}
 use Rattle.ranked_terms.specs.declared.term.Pattern.{Pattern}
 
 -- ---- each once
-
-neither : (a b : Bool) → (a || b) ≡ false → (a ≡ false) × (b ≡ false)
-neither true b h = cc
-neither false b h = (refl, h)
 
 turned_by : (v w : ℕ) (r : Bool) → (w == v) ≡ r → (v == w) ≡ false → r ≡ false
 turned_by v w true e h = absurd (true≢false (sym (eq-eqb v w (sym (eqb-true w v e))) ∙ h))
@@ -76,10 +75,10 @@ taken_by vs x true e = Contains-list_any nat_eq eqb-true vs x e
 taken_by vs x false e = Contains-push vs x
 
 only_one : (x v : ℕ) → Contains (x ∷ []) v → x ≡ v
-only_one x v h = elim (Contains-push_cases [] x v h) [ inl a ↦ absurd (omega (arith, a.1)) | inr e ↦ e ]
+only_one x v h = elim (Contains-push_cases [] x v h) [ inl a ↦ absurd (none v a) | inr e ↦ e ]
 
 taken : (vs xs : List ℕ) (v : ℕ) → Contains xs v → Contains (fold with_variable vs xs) v
-taken vs [] v h = absurd (omega (arith, h.1))
+taken vs [] v h = absurd (none v h)
 taken vs (x ∷ xs) v h =
     elim (Contains-append_cases (x ∷ []) xs v h) [
       | inl a ↦ kept (with_variable vs x) xs v (subst (Contains (with_variable vs x)) (only_one x v a) (taken_by vs x (list_any (λ w. x == w) vs) refl))
@@ -87,7 +86,7 @@ taken vs (x ∷ xs) v h =
     ]
 
 pub variables_of-occurs : (p : Pattern) (v : ℕ) → Contains (variables_of p) v → Contains (occurrences p) v
-variables_of-occurs p v h = elim (came [] (occurrences p) v h) [ inl a ↦ absurd (omega (arith, a.1)) | inr a ↦ a ]
+variables_of-occurs p v h = elim (came [] (occurrences p) v h) [ inl a ↦ absurd (none v a) | inr a ↦ a ]
 
 pub occurrences-in_variables_of : (p : Pattern) (v : ℕ) → Contains (occurrences p) v → Contains (variables_of p) v
 occurrences-in_variables_of p v h = taken [] (occurrences p) v h

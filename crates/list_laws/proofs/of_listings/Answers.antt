@@ -1,5 +1,5 @@
-use Rattle.ranked_terms.proofs.Listings.{listing_one, listing_front, front_has_more, longer_if_more, first_is_front}
-use Rattle.ranked_terms.proofs.laws.of_listings.Goals as goal
+use Rattle.list_laws.proofs.Listings.{listing_one, listing_front, front_has_more, longer_if_more, first_is_front}
+use Rattle.list_laws.proofs.of_listings.Goals as goal
 
 pub returns-clause-one : goal.returns-clause-one
 returns-clause-one g c o xs ys a b = listing_one o xs ys a b

@@ -1,56 +1,29 @@
--- Sizes and heights, terms over a signature, and what instances depend on.
-use Rattle.std.proofs.Common.{◌≡◌, ℕ, ◌≤◌, Bool, true, ◌&&◌, List, [], ◌∷◌, ◌++◌, map, sum, length, Option, Some, None, All, refl, sym, ap, subst, ◌∙◌, true≢false, arith}
+-- What instances depend on, and that they are over a signature.
+-- Nobody has to believe this: it is proved, for the proofs of the crates above.
+use Rattle.std.proofs.Common.{◌≡◌, ℕ, Bool, true, ◌&&◌, List, [], ◌∷◌, ◌++◌, map, length, All, refl, sym, ap, subst, ◌∙◌}
 use Rattle.std.specs.List.{AllByRecursion, list_all}
 use Rattle.std.specs.Cmp.{first_so, second_so}
 use Rattle.std.proofs.lemmas.List.{length-map}
 use Rattle.std.proofs.lemmas.List.Elements.{recursion_from_All}
 use Rattle.std.proofs.lemmas.List.Folds.{list_all-map}
-use Rattle.std.proofs.lemmas.List.Sums.{sum_by-cons}
-use Rattle.ranked_terms.specs.Names.{Symbol, arity_of}
-use Rattle.ranked_terms.specs.Terms.{node, size_of, height_of, greatest, is_arity, is_symbol, is_over, pattern_is_over, instance_of, assigned, joined, occurrences}
+use Rattle.ranked_terms.specs.Names.{Symbol}
+use Rattle.ranked_terms.specs.Terms.{node, is_symbol, is_over, pattern_is_over, instance_of, assigned, joined, occurrences}
 use Rattle.ranked_terms.specs.declared.term.Term.{Term}
 use Rattle.ranked_terms.specs.declared.term.Pattern.{Pattern}
 use Rattle.ranked_terms.specs.declared.term.Pattern.TheVariants.{Var, App}
 use Rattle.ranked_terms.specs.declared.term.Config.TheVariants as config
-use Rattle.ranked_terms.proofs.SignatureLaws.{arity_of-kept}
-use Rattle.ranked_terms.proofs.TermLaws.{size_node, height_node, is_over_node, term_induction, pattern_induction, instance_var, instance_app, assigned_var, assigned_app, occurrences_var, occurrences_app, pattern_is_over_app}
-
--- ---- heights
-
-greatest-le : (ts : List Term) → AllByRecursion (λ t. height_of t ≤ size_of t) ts → greatest (map height_of ts) ≤ sum (map size_of ts)
-greatest-le [] h = omega arith
-greatest-le (t ∷ ts) h = omega (arith, h.0, greatest-le ts h.1, sum_by-cons (λ x. x) (size_of t) (map size_of ts))
-
-pub height_of-le : (t : Term) → height_of t ≤ size_of t
-height_of-le = term_induction (λ t. height_of t ≤ size_of t) (λ f ts each.
-    omega (arith, height_node f ts, size_node f ts, greatest-le ts each))
+use Rattle.ranked_terms.specs.lemmas.TermLaws.{is_over_node, pattern_induction, instance_var, instance_app, assigned_var, assigned_app, occurrences_var, occurrences_app, pattern_is_over_app}
 
 -- ---- over a signature
 
-both : (a b : Bool) → a ≡ true → b ≡ true → (a && b) ≡ true
+pub both : (a b : Bool) → a ≡ true → b ≡ true → (a && b) ≡ true
 both a b e h = λ i. e i && h i
 
 -- each element that passes one test passes the other
-along : {X : Type 0} (p q : X → Bool) (xs : List X) → AllByRecursion (λ x. p x ≡ true → q x ≡ true) xs → list_all p xs ≡ true → list_all q xs ≡ true
+pub along : {X : Type 0} (p q : X → Bool) (xs : List X) → AllByRecursion (λ x. p x ≡ true → q x ≡ true) xs → list_all p xs ≡ true → list_all q xs ≡ true
 along p q [] h e = refl
 along p q (x ∷ xs) h e =
     both (q x) (list_all q xs) (h.0 (first_so (p x) (list_all p xs) e)) (along p q xs h.1 (second_so (p x) (list_all p xs) e))
-
-is_symbol_by : (s : List Symbol) (x : Symbol) (f n : ℕ) (o : Option ℕ) → arity_of s f ≡ o → is_symbol s f n ≡ true → is_symbol (s ++ x ∷ []) f n ≡ true
-is_symbol_by s x f n None e h = absurd (true≢false (sym h ∙ ap (is_arity n) e))
-is_symbol_by s x f n (Some a) e h = ap (is_arity n) (arity_of-kept s x f a e) ∙ (sym (ap (is_arity n) e) ∙ h)
-
--- a symbol stays when another is added
-pub is_symbol-kept : (s : List Symbol) (x : Symbol) (f n : ℕ) → is_symbol s f n ≡ true → is_symbol (s ++ x ∷ []) f n ≡ true
-is_symbol-kept s x f n h = is_symbol_by s x f n (arity_of s f) refl h
-
--- and so does a term
-pub is_over-kept : (s : List Symbol) (x : Symbol) (t : Term) → is_over s t ≡ true → is_over (s ++ x ∷ []) t ≡ true
-is_over-kept s x = term_induction (λ t. is_over s t ≡ true → is_over (s ++ x ∷ []) t ≡ true) (λ f ts each over.
-    let h : (is_symbol s f (length ts) && list_all (is_over s) ts) ≡ true = sym (is_over_node s f ts) ∙ over in
-    is_over_node (s ++ x ∷ []) f ts ∙ both (is_symbol (s ++ x ∷ []) f (length ts)) (list_all (is_over (s ++ x ∷ [])) ts)
-    (is_symbol-kept s x f (length ts) (first_so (is_symbol s f (length ts)) (list_all (is_over s) ts) h))
-    (along (is_over s) (is_over (s ++ x ∷ [])) ts each (second_so (is_symbol s f (length ts)) (list_all (is_over s) ts) h)))
 
 -- ---- what an instance depends on
 

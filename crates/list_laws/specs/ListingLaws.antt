@@ -3,7 +3,7 @@ use Rattle.std.specs.Prelude.{◌≡◌, ◌<◌, ℕ, List, [], ◌∷◌, ◌+
 use Rattle.std.specs.declared.cmp.Ordering.{Ordering}
 use Rattle.std.specs.Cmp.{IsTotalOrder}
 use Rattle.std.specs.List.Sorted.{IsStrictlySortedBy}
-use Rattle.ranked_terms.specs.Listings.{IsListing, IsFront, HasMoreThan, IsFirst}
+use Rattle.list_laws.specs.Listings.{IsListing, IsFront, HasMoreThan, IsFirst}
 
 -- there is at most one list of whatever has the property
 abbrev pub ListingsAreOne : {X : Type 0} → (X → X → Ordering) → (X → Type 0) → Type 0
