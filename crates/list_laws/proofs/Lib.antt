@@ -10,3 +10,4 @@ pub mod Lookups
 pub mod Ascending
 pub mod Listings
 pub mod Decided
+pub mod Growing

@@ -1,5 +1,5 @@
 -- Laws of lists: insertions in order, places, ends, and lists in parts.
-use Rattle.std.specs.Prelude.{◌≡◌, ◌≢◌, ◌↔◌, ℕ, true, ◌-◌, ◌==◌, List, [], ◌∷◌, ◌++◌, map, length, slice_index, Contains, Result}
+use Rattle.std.specs.Prelude.{◌≡◌, ◌≢◌, ◌↔◌, ◌⊎◌, ℕ, Bool, true, false, ◌||◌, ◌-◌, ◌==◌, List, [], ◌∷◌, ◌++◌, map, length, slice_index, Contains, Result}
 use Rattle.std.specs.declared.cmp.Ordering.{Ordering}
 use Rattle.std.specs.declared.cmp.Ordering.TheVariants.{Less, Equal}
 use Rattle.std.specs.Ordering.{nat_cmp}
@@ -8,6 +8,7 @@ use Rattle.std.specs.List.{AllPairs, AllZip, slice_get, position_or_len}
 use Rattle.std.specs.List.Sorted.{IsStrictlySortedBy, IsSearchInRange, IsBinarySearchResult}
 use Rattle.std.specs.BTreeSet.{insert_key}
 use Rattle.std.specs.Result.{is_ok}
+use Rattle.indexmap.specs.IndexSet as at_end
 use Rattle.list_laws.specs.Lists.{IsUnion, Decided}
 use Rattle.list_laws.specs.Listings.{IsListing}
 
@@ -50,3 +51,11 @@ PartsDiffer = (xs ys : List ℕ) (n : ℕ) → AllPairs (λ x y. x ≢ y) (xs ++
 -- as many numbers as sets, where each is a member of the set at its place
 abbrev pub FitsAreLong : Type 0
 FitsAreLong = (sets : List (List ℕ)) (xs : List ℕ) → AllZip Contains sets xs → length sets ≡ length xs
+
+-- an insertion at the end adds a number that isn't there
+abbrev pub InsertionsGrow : Type 0
+InsertionsGrow = (numbers : List ℕ) (n x : ℕ) → Contains (at_end.insert_key ◌==◌ numbers n) x ↔ (Contains numbers x ⊎ (n ≡ x))
+
+-- where not one of two tests is passed, neither is
+abbrev pub NeitherPasses : Type 0
+NeitherPasses = (a b : Bool) → (a || b) ≡ false → (a ≡ false) × (b ≡ false)

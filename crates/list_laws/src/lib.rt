@@ -3,7 +3,7 @@
 #![tactic(auto)]
 
 ghost use Rattle.list_laws.specs.ListingLaws.{ListingsAreOne, FrontsBeginListings, LongFrontsAreMore, MoreMakeLonger, FirstsAreFronts};
-ghost use Rattle.list_laws.specs.ListLaws.{InsertionsAdd, InsertionsAscend, PartsAscend, DecidedAreListed, EndsStay, SearchesFind, PlacesStay, PartsDiffer, FitsAreLong};
+ghost use Rattle.list_laws.specs.ListLaws.{InsertionsAdd, InsertionsAscend, PartsAscend, DecidedAreListed, EndsStay, SearchesFind, PlacesStay, PartsDiffer, FitsAreLong, InsertionsGrow, NeitherPasses};
 
 use std::marker::Brand;
 
@@ -54,11 +54,14 @@ pub fn of_orders<T: Ordered>()
 {}
 
 /// Laws of places: a list ends as its second part does, a binary search finds what is there, a number that is mapped keeps
-/// its place, numbers that differ stand in one part of a list, and what fits place by place is as long.
+/// its place, numbers that differ stand in one part of a list, what fits place by place is as long, an insertion at the end
+/// adds what isn't there, and where not one of two tests is passed, neither is.
 pub fn of_places<T: Ordered>()
     ensures ends { EndsStay T }
     ensures searches { SearchesFind }
     ensures mapped { PlacesStay }
     ensures differ { PartsDiffer }
     ensures fits { FitsAreLong }
+    ensures grow { InsertionsGrow }
+    ensures neither { NeitherPasses }
 {}

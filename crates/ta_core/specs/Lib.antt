@@ -10,3 +10,4 @@ pub mod ClosureLaws
 pub mod Reached
 pub mod Acceptance
 pub mod AcceptanceLaws
+pub mod lemmas

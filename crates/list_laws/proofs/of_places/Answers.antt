@@ -3,6 +3,8 @@ use Rattle.list_laws.proofs.Ends.{last_append}
 use Rattle.list_laws.proofs.Lookups.{search_finds}
 use Rattle.list_laws.proofs.Positions.{mapped_place}
 use Rattle.list_laws.proofs.Zips.{zip_length}
+use Rattle.list_laws.proofs.Growing.{members_insert}
+use Rattle.list_laws.proofs.Tests as tests
 use Rattle.list_laws.proofs.of_places.Goals as goal
 
 pub returns-clause-ends : goal.returns-clause-ends
@@ -19,3 +21,9 @@ returns-clause-differ g c = not_in_both
 
 pub returns-clause-fits : goal.returns-clause-fits
 returns-clause-fits g c = zip_length
+
+pub returns-clause-grow : goal.returns-clause-grow
+returns-clause-grow g c = members_insert
+
+pub returns-clause-neither : goal.returns-clause-neither
+returns-clause-neither g c = tests.neither

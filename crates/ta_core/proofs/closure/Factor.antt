@@ -1,20 +1,20 @@
 -- A run of an instance of a linear pattern goes by way of states for its variables, and such states make a run of the instance.
-use Rattle.std.proofs.Common.{◌≡◌, ◌≢◌, ℕ, ◌+◌, ◌<◌, cond, eqb, List, [], ◌∷◌, ◌++◌, map, length, refl, sym, ap, subst, ◌∙◌, ⊎_elim, arith, eq-eqb, ne_eqb, length-append}
-use Rattle.std.specs.List.{AllByRecursion, AllPairs, AllZip, Contains}
-use Rattle.std.proofs.lemmas.List.{get_or_append_left, get_or-append-add}
+use Rattle.std.proofs.Common.{◌≡◌, ℕ, cond, eqb, List, [], ◌∷◌, map, refl, sym, ap, subst, ◌∙◌, ⊎_elim, eq-eqb, ne_eqb}
+use Rattle.std.specs.List.{AllByRecursion, AllZip, Contains}
 use Rattle.std.proofs.lemmas.List.Elements.{Contains-append_left, Contains-append_right, Contains-append_cases, Contains-get_or}
 use Rattle.ranked_terms.specs.Terms.{instance_of, assigned, config_of, joined, occurrences}
 use Rattle.ranked_terms.specs.declared.term.Term.{Term}
 use Rattle.ranked_terms.specs.declared.term.Pattern.{Pattern}
 use Rattle.ranked_terms.specs.declared.term.Pattern.TheVariants.{Var, App}
 use Rattle.ranked_terms.specs.declared.term.Config.TheVariants as config
-use Rattle.ranked_terms.proofs.TermLaws.{config_node, pattern_induction, instance_var, instance_app, assigned_var, assigned_app, occurrences_var, occurrences_app}
-use Rattle.ranked_terms.proofs.InstanceLaws.{assigned-agree}
+use Rattle.ranked_terms.specs.lemmas.TermLaws.{config_node, pattern_induction, instance_var, instance_app, assigned_var, assigned_app, occurrences_var, occurrences_app}
+use Rattle.ranked_terms.specs.lemmas.InstanceLaws.{assigned-agree}
+use Rattle.list_laws.proofs.Different.{AreDifferent, front_differs, back_differs, not_in_both}
 use Rattle.ta_core.specs.TreeAutomaton.{TreeAutomaton, IsSound}
 use Rattle.ta_core.specs.Runs.{Runs}
 use Rattle.ta_core.specs.ClosureLaws.{InstancesFactor, InstancesCompose}
-use Rattle.ta_core.proofs.Members.{here, none, parts}
-use Rattle.ta_core.proofs.RunsLaws.{run_ends, run_of_app, run_of_state, reached, all_from_zip, zip_from_all}
+use Rattle.list_laws.proofs.Members.{here, none, parts}
+use Rattle.ta_core.specs.lemmas.RunsLaws.{run_ends, run_of_app, run_of_state, reached, all_from_zip, zip_from_all}
 
 -- ---- equations
 
@@ -36,27 +36,6 @@ under f ps v c = subst (λ vs. Contains vs v) (sym (occurrences_app f ps)) c
 
 within : (f : ℕ) (ps : List Pattern) (v : ℕ) → Contains (occurrences (App f ps)) v → Contains (joined (map occurrences ps)) v
 within f ps v c = subst (λ vs. Contains vs v) (occurrences_app f ps) c
-
--- ---- lists without a repeat
-
-abbrev AreDifferent : List ℕ → Type 0
-AreDifferent vs = AllPairs (λ v w. v ≢ w) vs
-
-front_differs : (xs ys : List ℕ) → AreDifferent (xs ++ ys) → AreDifferent xs
-front_differs xs ys h i j d lt l =
-    let long = length-append xs ys in
-    let at : i < length xs = omega arith in
-    λ e. h i j d lt (omega arith) (get_or_append_left xs ys d i at ∙ (e ∙ sym (get_or_append_left xs ys d j l)))
-
-back_differs : (xs ys : List ℕ) → AreDifferent (xs ++ ys) → AreDifferent ys
-back_differs xs ys h i j d lt l =
-    let long = length-append xs ys in
-    λ e. h (length xs + i) (length xs + j) d (omega arith) (omega arith) (get_or-append-add xs ys i d ∙ (e ∙ sym (get_or-append-add xs ys j d)))
-
-not_in_both : (xs ys : List ℕ) (v : ℕ) → AreDifferent (xs ++ ys) → Contains xs v → Contains ys v → ⊥
-not_in_both xs ys v h c e =
-    let long = length-append xs ys in
-    h c.0 (length xs + e.0) v (omega (arith, c.1)) (omega (arith, e.1)) (get_or_append_left xs ys v c.0 c.1 ∙ (c.2 ∙ sym (get_or-append-add xs ys e.0 v ∙ e.2)))
 
 -- ---- from the run of an instance to states
 

@@ -1,4 +1,5 @@
 -- Laws of runs.
+-- Nobody has to believe this: it is proved, for the proofs of the crates above.
 use Rattle.std.proofs.Common.{◌≡◌, ℕ, List, [], ◌∷◌, refl, sym, ap, ◌∙◌, subst}
 use Rattle.std.specs.List.{Contains, AllZip}
 use Rattle.std.proofs.lemmas.List.Elements.{All-contains}
@@ -8,7 +9,7 @@ use Rattle.ranked_terms.specs.declared.term.Config.TheVariants.{outs-App, outs-S
 use Rattle.ta_core.specs.TreeAutomaton.{TreeAutomaton, IsSound, IsTransOf, IsEpsOf, trans_of}
 use Rattle.ta_core.specs.Runs.{Runs, RunsAll, RunsPlain, RunsAllPlain, Reaches}
 use Rattle.ta_core.specs.Laws.{IsClosed, IsWithin}
-use Rattle.ta_core.proofs.Members.{none}
+use Rattle.list_laws.proofs.Members.{none}
 
 mutual
   pub runs_within : {A B : TreeAutomaton} (w : IsWithin A B) {c : Config} {q : ℕ} → Runs A c q → Runs B c q

@@ -6,14 +6,14 @@ use Rattle.std.proofs.lemmas.List.FromFn.{get_or-range_with_len, length-range_wi
 use Rattle.ranked_terms.specs.Terms.{node, config_of}
 use Rattle.ranked_terms.specs.declared.term.Term.{Term}
 use Rattle.ranked_terms.specs.declared.term.Config.{Config, State, App}
-use Rattle.ranked_terms.proofs.TermLaws.{config_node, term_induction}
+use Rattle.ranked_terms.specs.lemmas.TermLaws.{config_node, term_induction}
 use Rattle.ta_core.specs.TreeAutomaton.{TreeAutomaton, IsSound, IsTransOf, IsEpsOf, trans_of}
 use Rattle.ta_core.specs.Runs.{Runs, RunsAll, Reaches}
 use Rattle.ta_core.specs.Acceptance.{IsContained, StateHolds, TransHolds, EpsHolds, FinalHolds, image}
 use Rattle.ta_core.specs.AcceptanceLaws.{ContainedKeepsRuns, ContainedKeepsAccepted, ContainsItself}
-use Rattle.ta_core.proofs.Keys.{all_from_members}
-use Rattle.ta_core.proofs.Members.{here, there}
-use Rattle.ta_core.proofs.RunsLaws.{run_of_app, run_of_state, reached, all_from_zip, zip_from_all}
+use Rattle.list_laws.proofs.Members.{all_from_members}
+use Rattle.list_laws.proofs.Members.{here, there}
+use Rattle.ta_core.specs.lemmas.RunsLaws.{run_of_app, run_of_state, reached, all_from_zip, zip_from_all}
 
 -- ---- runs
 

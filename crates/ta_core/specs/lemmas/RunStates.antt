@@ -1,7 +1,7 @@
 -- From the states of the arguments to the states of an application.
-use Rattle.std.proofs.Common.{◌≡◌, ℕ, suc, zero, ◌<◌, ◌↔◌, ◌==◌, Bool, true, false, IsTrue, List, [], ◌∷◌, ◌++◌, length, map, zip, Result, Ok, Err, IfOk, refl, sym, ap, ◌∙◌, subst, inl, inr, ⊎_elim, true≢false, arith}
-use Rattle.std.specs.Bool.{MatchBool}
-use Rattle.std.specs.List.{Contains, AllZip, AllWithin, HoldsAt}
+-- Nobody has to believe this: it is proved, for the proofs of the crates above.
+use Rattle.std.proofs.Common.{◌≡◌, ℕ, ◌↔◌, ◌==◌, List, [], ◌∷◌, ◌++◌, map, Result, Ok, Err, IfOk, refl, sym, ap, ◌∙◌, subst, inl, inr, ⊎_elim}
+use Rattle.std.specs.List.{Contains, AllZip}
 use Rattle.std.proofs.lemmas.List.Elements.{Contains-push_cases, Contains-append_left, Contains-push}
 use Rattle.indexmap.specs.IndexSet.{insert_key}
 use Rattle.ranked_terms.specs.Terms.{config_of, config_step}
@@ -13,41 +13,14 @@ use Rattle.ta_core.specs.TreeAutomaton.{TreeAutomaton, trans_of}
 use Rattle.ta_core.specs.Runs.{Runs, RunsAll}
 use Rattle.ta_core.specs.Reached.{ReachedFrom, HasTransInto, EntersAndReaches}
 use Rattle.ta_core.specs.declared.trans.Trans.{Trans}
-use Rattle.ta_core.proofs.Members.{none, here, parts}
-use Rattle.ta_core.proofs.ReachedSets.{members_insert}
-use Rattle.ta_core.proofs.RunsLaws.{reached, run_of_app, run_of_state}
+use Rattle.list_laws.proofs.Members.{none, here, parts}
+use Rattle.list_laws.proofs.Growing.{members_insert}
+use Rattle.ta_core.specs.lemmas.RunsLaws.{reached, run_of_app, run_of_state}
 
 -- a list whose members are given in other words
 pub exact_by : {E : Type 0} (Q P : ℕ → Type 0) → ((q : ℕ) → Q q ↔ P q) → (r : Result (List ℕ) E) → IfOk r (λ all. (q : ℕ) → Contains all q ↔ Q q) → IfOk r (λ all. (q : ℕ) → Contains all q ↔ P q)
 exact_by Q P same (Ok all) h = λ q. (λ i. (same q).0 ((h q).0 i), λ p. (h q).1 ((same q).1 p))
 exact_by Q P same (Err e) h = tt
-
--- ---- members at their places
-
-zip_from_within : (qs : List ℕ) (sets : List (List ℕ)) → length qs ≡ length sets → AllWithin (λ (p : ℕ × List ℕ). Contains p.1 p.0) (zip qs sets) 0 (length (zip qs sets)) → AllZip Contains sets qs
-zip_from_within [] [] e h = tt
-zip_from_within [] (s ∷ sets) e h = absurd (omega arith)
-zip_from_within (q ∷ qs) [] e h = absurd (omega arith)
-zip_from_within (q ∷ qs) (s ∷ sets) e h = (h 0 (q, s) (omega arith) (omega arith), zip_from_within qs sets (omega arith) (λ k d low high. h (suc k) d (omega arith) (omega arith)))
-
-zip_fails : (qs : List ℕ) (sets : List (List ℕ)) (k : ℕ) → k < length (zip qs sets) → HoldsAt (λ (p : ℕ × List ℕ). ¬ Contains p.1 p.0) (zip qs sets) k → AllZip Contains sets qs → ⊥
-zip_fails [] sets k l h z = absurd (omega arith)
-zip_fails (q ∷ qs) [] k l h z = absurd (omega arith)
-zip_fails (q ∷ qs) (s ∷ sets) zero l h z = h (q, s) z.0
-zip_fails (q ∷ qs) (s ∷ sets) (suc k) l h z = zip_fails qs sets k (omega arith) h z.1
-
--- what a search for one that is no member says
-pub zip_answers : (qs : List ℕ) (sets : List (List ℕ)) (r : Bool) → length qs ≡ length sets
-    → MatchBool r (AllWithin (λ (p : ℕ × List ℕ). Contains p.1 p.0) (zip qs sets) 0 (length (zip qs sets))) ((k : ℕ) × (k < length (zip qs sets)) × HoldsAt (λ (p : ℕ × List ℕ). ¬ Contains p.1 p.0) (zip qs sets) k)
-    → IsTrue r ↔ AllZip Contains sets qs
-zip_answers qs sets true e h = (λ _. zip_from_within qs sets e h, λ _. refl)
-zip_answers qs sets false e h = (λ t. absurd (true≢false (sym t)), λ z. absurd (zip_fails qs sets h.0 h.1 h.2 z))
-
-pub zip_length : (sets : List (List ℕ)) (qs : List ℕ) → AllZip Contains sets qs → length sets ≡ length qs
-zip_length [] [] z = refl
-zip_length [] (q ∷ qs) z = absurd z
-zip_length (s ∷ sets) [] z = absurd z
-zip_length (s ∷ sets) (q ∷ qs) z = ap suc (zip_length sets qs z.1)
 
 -- ---- targets
 
@@ -132,7 +105,8 @@ config_is t = ap config_of (sym (roll-out-Term t)) ∙ fold-roll-Term Config con
 
 pub one_state : (states : List ℕ) (p : ℕ) (set : List ℕ) → Contains states p → set ≡ p ∷ [] → (x : ℕ) → Contains set x ↔ ((p ≡ x) × Contains states x)
 one_state states p set i e x =
-    rw e (λ c. ⊎_elim (λ same. (same, subst (Contains states) same i)) (λ t. absurd (none x t)) (parts p x [] c), λ h. subst (Contains (p ∷ [])) h.0 (here p []))
+    subst (λ set. Contains set x ↔ ((p ≡ x) × Contains states x)) (sym e)
+    (λ c. ⊎_elim (λ same. (same, subst (Contains states) same i)) (λ t. absurd (none x t)) (parts p x [] c), λ h. subst (Contains (p ∷ [])) h.0 (here p []))
 
 pub runs_of_state : (A : TreeAutomaton) (p : ℕ) (set : List ℕ) → ((x : ℕ) → Contains set x ↔ ((p ≡ x) × Contains A.states x)) → (q : ℕ) → ReachedFrom A set q ↔ Runs A (State p) q
 runs_of_state A p set exact q = (

@@ -1,41 +1,19 @@
 -- The triples of rules, assignments and states, and the open ones among them.
 use Rattle.std.proofs.Common.{◌≡◌, ℕ, zero, suc, ◌+◌, List, [], ◌∷◌, map, length, get_or, slice_get, Some, All, Contains, refl, sym, ap, subst, ◌∙◌, ⊎_elim, arith}
-use Rattle.std.specs.List.{flat_map}
 use Rattle.std.proofs.lemmas.List.Elements.{All-nil, All-cons, All-head, All-tail, Contains-append_left, Contains-append_right, Contains-append_cases}
 use Rattle.std.proofs.lemmas.Option.{slice_get-get_or}
 use Rattle.trs_rules.specs.Rules.{RewriteRule, IsRule}
 use Rattle.trs_rules.specs.declared.sigma.Pair.{Pair}
+use Rattle.list_laws.proofs.Members.{map_has, map_had, flat_map_has, flat_map_had}
+use Rattle.ta_core.specs.Closure.{pair_of}
 use Rattle.ta_core.specs.TreeAutomaton.{TreeAutomaton, IsSound}
 use Rattle.ta_core.specs.Runs.{Runs}
 use Rattle.ta_core.specs.Closure.{IsClosedUnder, Closed, IsTriple, IsOpen, IsSettled, OpenAmong, AreOpenPairs, assigned_by, assignments, triples_of_rule, triples_from}
 use Rattle.ta_core.specs.ClosureLaws.{ClosedHasNoOpenPair, OpenPairsAreOne, TriplesAreAll}
-use Rattle.ta_core.proofs.Closure.{at_place, closed_at_list, closed_from_lists}
-use Rattle.ta_core.proofs.Members.{here, there, none, parts}
-use Rattle.ta_core.proofs.RunsLaws.{run_ends}
-
--- ---- members
-
-module _ {X Y : Type 0} where
-  pub map_has : (f : X → Y) (xs : List X) (x : X) (y : Y) → Contains xs x → f x ≡ y → Contains (map f xs) y
-  map_has f [] x y c e = absurd (none x c)
-  map_has f (z ∷ xs) x y c e =
-      ⊎_elim (λ same. subst (Contains (f z ∷ map f xs)) (ap f same ∙ e) (here (f z) (map f xs))) (λ later. there (f z) y (map f xs) (map_has f xs x y later e)) (parts z x xs c)
-
-  pub map_had : (f : X → Y) (xs : List X) (y : Y) → Contains (map f xs) y → (x : X) × Contains xs x × (f x ≡ y)
-  map_had f [] y c = absurd (none y c)
-  map_had f (x ∷ xs) y c =
-      ⊎_elim (λ same. (x, here x xs, same)) (λ later. let h = map_had f xs y later in (h.0, there x h.0 xs h.1, h.2)) (parts (f x) y (map f xs) c)
-
-  pub flat_map_has : (f : X → List Y) (xs : List X) (x : X) (y : Y) → Contains xs x → Contains (f x) y → Contains (flat_map f xs) y
-  flat_map_has f [] x y c d = absurd (none x c)
-  flat_map_has f (z ∷ xs) x y c d =
-      ⊎_elim (λ same. Contains-append_left (f z) (flat_map f xs) y (subst (λ w. Contains (f w) y) (sym same) d))
-      (λ later. Contains-append_right (f z) (flat_map f xs) y (flat_map_has f xs x y later d)) (parts z x xs c)
-
-  pub flat_map_had : (f : X → List Y) (xs : List X) (y : Y) → Contains (flat_map f xs) y → (x : X) × Contains xs x × Contains (f x) y
-  flat_map_had f [] y c = absurd (none y c)
-  flat_map_had f (x ∷ xs) y c =
-      ⊎_elim (λ first. (x, here x xs, first)) (λ later. let h = flat_map_had f xs y later in (h.0, there x h.0 xs h.1, h.2)) (Contains-append_cases (f x) (flat_map f xs) y c)
+use Rattle.list_laws.proofs.Members.{at_place}
+use Rattle.ta_core.specs.lemmas.Assignments.{closed_at_list, closed_from_lists}
+use Rattle.list_laws.proofs.Members.{here, there, none, parts}
+use Rattle.ta_core.specs.lemmas.RunsLaws.{run_ends}
 
 -- ---- assignments
 
@@ -68,9 +46,6 @@ pub record IsFrom (A : TreeAutomaton) (i : ℕ) (R : List RewriteRule) (pair : P
   pub each_variable : length pair.sigma ≡ length rule.vars
   pub are_states : All (Contains A.states) pair.sigma
   pub is_state : Contains A.states pair.state
-
-abbrev pub pair_of : ℕ → List ℕ → ℕ → Pair
-pair_of i σ q = record { rule = i; sigma = σ; state = q }
 
 of_rule_has : (A : TreeAutomaton) (i : ℕ) (rule : RewriteRule) (pair : Pair) → pair.rule ≡ i → length pair.sigma ≡ length rule.vars → All (Contains A.states) pair.sigma → Contains A.states pair.state →
     Contains (triples_of_rule A i rule) pair

@@ -6,18 +6,18 @@ use Rattle.std.specs.Cmp.{IsTotalOrder}
 use Rattle.std.specs.List.Sorted.{IsStrictlySortedBy}
 use Rattle.std.proofs.lemmas.Cmp.{nat_cmp_total, nat_list_cmp_total, then_total, on_total}
 use Rattle.std.proofs.lemmas.List.Elements.{All-nil, All-cons, All-head, All-tail, All-contains, All-from_recursion, recursion_from_All}
-use Rattle.ranked_terms.specs.Listings.{IsListing, IsFirst}
-use Rattle.ranked_terms.proofs.Listings.{listing_one, listing_front, longer_if_more}
+use Rattle.list_laws.specs.Listings.{IsListing, IsFirst}
+use Rattle.list_laws.proofs.Listings.{listing_one, listing_front, longer_if_more}
 use Rattle.trs_rules.specs.Rules.{RewriteRule}
 use Rattle.trs_rules.specs.declared.sigma.Pair.{Pair}
 use Rattle.ta_core.specs.TreeAutomaton.{TreeAutomaton}
 use Rattle.ta_core.specs.Closure.{Closed, IsTriple, IsOpen, IsOpenTriple, IsSettled, OpenAmong, AreOpenPairs, IsFirstOpen, assigned_by, triples_from}
 use Rattle.ta_core.specs.ClosureLaws.{pair_order, TriplesAreDecided, OpenPairsAreListed, OpenPairsAreOpenTriples, OpenPairsAreListing, FirstOpenIsHead, ClosedOrFirstOpen, FrontsBeginOpenPairs, MoreOpenAreLonger}
-use Rattle.ta_core.proofs.Ascending.{triples_ascend}
+use Rattle.ta_core.proofs.closure.Ascending.{triples_ascend}
 use Rattle.ta_core.proofs.Decided.{runs_are_decided}
-use Rattle.ta_core.proofs.Keys.{all_from_members}
-use Rattle.ta_core.proofs.Members.{here, there, none, parts}
-use Rattle.ta_core.proofs.OpenPairs.{not_both, triples_are_all, closed_has_no_open_pair}
+use Rattle.list_laws.proofs.Members.{all_from_members}
+use Rattle.list_laws.proofs.Members.{here, there, none, parts}
+use Rattle.ta_core.proofs.closure.OpenPairs.{not_both, triples_are_all, closed_has_no_open_pair}
 
 pub pair_order_total : IsTotalOrder pair_order
 pair_order_total = then_total (on_total (λ (x : Pair). x.rule) nat_cmp_total) (then_total (on_total (λ (x : Pair). x.sigma) nat_list_cmp_total) (on_total (λ (x : Pair). x.state) nat_cmp_total))

@@ -9,15 +9,15 @@ use Rattle.std.proofs.lemmas.Slice.Zip.{AllZip-long}
 use Rattle.ranked_terms.specs.Names.{Symbol}
 use Rattle.ranked_terms.specs.Terms.{node, config_of, is_over, is_symbol}
 use Rattle.ranked_terms.specs.declared.term.Term.{Term}
-use Rattle.ranked_terms.proofs.TermLaws.{config_node, is_over_node, term_induction}
+use Rattle.ranked_terms.specs.lemmas.TermLaws.{config_node, is_over_node, term_induction}
 use Rattle.ta_core.specs.declared.trans.Trans.{Trans}
 use Rattle.ta_core.specs.TreeAutomaton.{TreeAutomaton, trans_of}
 use Rattle.ta_core.specs.Runs.{Runs}
 use Rattle.ta_core.specs.SpecRules.{automaton_is_over}
 use Rattle.ta_core.specs.AcceptanceLaws.{AcceptedTermsAreOver, AcceptedIsSafe}
-use Rattle.ta_core.proofs.Closure.{closed_accepts_reached}
-use Rattle.ta_core.proofs.Containment.{contained_keeps_accepted}
-use Rattle.ta_core.proofs.RunsLaws.{run_of_app, zip_from_all}
+use Rattle.ta_core.proofs.closure.Closure.{closed_accepts_reached}
+use Rattle.ta_core.proofs.acceptance.Containment.{contained_keeps_accepted}
+use Rattle.ta_core.specs.lemmas.RunsLaws.{run_of_app, zip_from_all}
 
 -- ---- terms over a signature
 
