@@ -1,5 +1,6 @@
 //! Laws of terms and patterns: what holds of the definitions alone, as contracts of calls that do nothing.
-ghost use Rattle.ranked_terms.specs.Laws.{SizesAddUp, HeightsWithinSizes, TermsStay, ConfigsDiffer, InstancesAgree, AssignedAgree, InstancesAreOver, VariablesOnce, FirstsInOrder};
+ghost use Rattle.ranked_terms.specs.Laws.{SizesAddUp, HeightsWithinSizes, TermsStay, ConfigsDiffer, InstancesAgree};
+ghost use Rattle.ranked_terms.specs.Laws.{AssignedAgree, InstancesAreOver, VariablesOnce, FirstsInOrder};
 
 /// Laws of ground terms: their sizes and heights, the signatures that they are over, and themselves as configurations.
 pub fn of_terms()

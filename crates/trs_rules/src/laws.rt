@@ -1,5 +1,7 @@
 //! Laws of steps and chains, each as the contract of a function that does nothing.
-ghost use Rattle.trs_rules.specs.Laws.{PlacedStepsAreSteps, StepsArePlaced, ChainsAreTheirSteps, ChainsAppend, LeadsToItself, StepsLead, LeadsAreTransitive, MoreRulesKeepSteps, StepsStayOver, ChainsStayOver};
+ghost use Rattle.trs_rules.specs.Laws.{PlacedStepsAreSteps, StepsArePlaced, ChainsAreTheirSteps, ChainsAppend};
+ghost use Rattle.trs_rules.specs.Laws.{LeadsToItself, StepsLead, LeadsAreTransitive, MoreRulesKeepSteps, StepsStayOver};
+ghost use Rattle.trs_rules.specs.Laws.{ChainsStayOver};
 
 /// A step at a position is a step.
 pub fn placed_steps_are_steps()
