@@ -5,15 +5,16 @@ use Rattle.timbuk_grammar.specs.declared.terminal.Terminal.{Terminal}
 use Rattle.timbuk_grammar.specs.declared.terminal.Terminal.TheVariants as terminal
 use Rattle.timbuk_grammar.specs.Matching.{matches}
 use Rattle.timbuk_grammar.specs.Grammar.{Part}
-use Rattle.timbuk_reader.specs.declared.fault.SpecKind.TheVariants as kind
-use Rattle.timbuk_reader.specs.declared.fault.LimitName.TheVariants as limit
+use Rattle.spec_text.specs.declared.fault.SpecKind.TheVariants as kind
+use Rattle.spec_text.specs.declared.fault.LimitName.TheVariants as limit
 use Rattle.timbuk_reader.specs.declared.fault.SpecError.{SpecError}
 use Rattle.timbuk_reader.specs.declared.fault.SpecError.TheVariants as error
 use Rattle.timbuk_reader.specs.declared.state.Reader.{Reader}
 use Rattle.ranked_terms.specs.Names.{Symbol, number_of}
 use Rattle.ranked_terms.specs.Words.{IsNameText}
-use Rattle.timbuk_reader.specs.Declarations.{Text, any, nothing}
-use Rattle.timbuk_reader.specs.View.{Open, closed, state_of, end_of, from, as_error, refusal, sees}
+use Rattle.spec_text.specs.Declarations.{Text, any, nothing}
+use Rattle.timbuk_reader.specs.View.{Open, closed, state_of, end_of, from, as_error, refusal}
+use Rattle.spec_text.specs.Reading.{sees}
 
 -- ---- parts
 

@@ -6,11 +6,11 @@ use Rattle.timbuk_lex.specs.declared.lexeme.Lexeme.{Lexeme}
 use Rattle.timbuk_lex.specs.declared.lex.Ending.{Ending}
 use Rattle.timbuk_lex.specs.declared.lex.Ending.TheVariants.{Whole, Stopped}
 use Rattle.timbuk_grammar.specs.Matching.{is_word}
-use Rattle.timbuk_reader.specs.declared.fault.SpecFault.{SpecFault}
-use Rattle.timbuk_reader.specs.declared.fault.SpecKind.TheVariants as kind
-use Rattle.timbuk_reader.specs.declared.fault.LimitName.TheVariants as limit
+use Rattle.spec_text.specs.declared.fault.SpecFault.{SpecFault}
+use Rattle.spec_text.specs.declared.fault.SpecKind.TheVariants as kind
+use Rattle.spec_text.specs.declared.fault.LimitName.TheVariants as limit
 use Rattle.timbuk_reader.specs.declared.token.Token.{Token}
-use Rattle.timbuk_reader.specs.Reading.{fault, lexical_kind}
+use Rattle.spec_text.specs.Rows.{fault, lexical_kind}
 
 -- a token with a text of its own
 abbrev pub token_of : Lexeme → Token

@@ -4,26 +4,27 @@ ghost use Rattle.std.specs.List.{range_with_len};
 ghost use Rattle.ta_core.specs.TreeAutomaton.{bare};
 ghost use Rattle.ta_core.specs.declared.spec.Spec.{Spec as Spelled};
 ghost use Rattle.timbuk_lex.specs.Laws.{HasWord};
-ghost use Rattle.timbuk_reader.specs.declared.fault.SpecFault.{SpecFault as Told};
-ghost use Rattle.timbuk_reader.specs.Declarations.{nothing};
-ghost use Rattle.timbuk_reader.specs.Reading.{read};
+ghost use Rattle.spec_text.specs.declared.fault.SpecFault.{SpecFault as Told};
+ghost use Rattle.spec_text.specs.Declarations.{nothing};
+ghost use Rattle.spec_text.specs.Reading.{read};
 ghost use Rattle.timbuk_reader.specs.Kept.{states_are_below, trans_are_below, eps_are_below};
-ghost use Rattle.timbuk_reader.specs.Spelled.{IsAutomatonOf, IsSpecOf};
-ghost use Rattle.timbuk_reader.specs.SpecText.{SpecText};
-ghost use Rattle.timbuk_reader.specs.Faults.{SpecFaultAt};
-ghost use Rattle.timbuk_reader.specs.Laws.{IsRead};
+ghost use Rattle.spec_text.specs.Spelled.{IsAutomatonOf, IsSpecOf};
+ghost use Rattle.spec_text.specs.SpecText.{SpecText};
+ghost use Rattle.spec_text.specs.Faults.{SpecFaultAt};
+ghost use Rattle.spec_text.specs.Laws.{IsRead};
 ghost use Rattle.timbuk_reader.specs.View.{started, state_of, end_line, end_column, end_of};
 
 use crate::fault::SpecError;
 use crate::names::NameTable;
 use crate::state::{Reader, StartedAutomaton};
 use ranked_terms::{Seq, Signature};
+use spec_text::{faults_are_first, no_text_has_two_specs, texts_are_read};
 use std::alloc::{AllocError, Global};
 use ta_core::{Automaton, Spec};
 use timbuk_lex::{Lexed, lex_of};
 
 /// Reads a text of fewer than 4,294,967,295 bytes: the specification that it spells, where it spells one. Else `Fault` has
-/// the first place at which the text is wrong, and what is wrong there. `Memory` comes at want of memory.
+/// the first place at which the text is wrong, and what is wrong there. `Memory` comes when the memory runs out.
 pub fn read_spec(alloc: Global, bytes: &[u8]) -> Result<Spec, SpecError>
     requires { length bytes.now < 2 ^ 32 - 1 }
     ensures found { IfOk result (SpecText bytes.now) }
@@ -34,6 +35,10 @@ pub fn read_spec(alloc: Global, bytes: &[u8]) -> Result<Spec, SpecError>
     ensures that_one { (spec : Spelled) → SpecText bytes.now spec → (result ≡ Ok spec) ⊎ (result ≡ Err SpecError.Memory) }
     ensures first { (told : Told) → SpecFaultAt bytes.now told → (result ≡ Err (SpecError.Fault told)) ⊎ (result ≡ Err SpecError.Memory) }
 {
+    // For the proof: what is read is what the text spells, and its first fault.
+    texts_are_read();
+    faults_are_first();
+    no_text_has_two_specs();
     read_text(alloc, bytes)
 }
 

@@ -2,11 +2,12 @@
 ghost use Rattle.std.specs.Prelude.{◌≡◌, ◌-◌, ◌<◌, ◌^◌, All, None, Some, Err, find, length, map, option_map, IfOk};
 ghost use Rattle.timbuk_lex.specs.Lexing.{lexed};
 ghost use Rattle.timbuk_reader.specs.Tokens as tokens;
-ghost use Rattle.timbuk_reader.specs.declared.fault.SpecFault.{SpecFault as Told};
+ghost use Rattle.spec_text.specs.declared.fault.SpecFault.{SpecFault as Told};
 ghost use Rattle.timbuk_reader.specs.declared.token.TokenError.TheVariants.{Memory};
 
-use crate::fault::{LimitName, SpecFault, SpecKind, lexical_kind};
+use crate::fault::lexical_kind;
 use ranked_terms::{MAX_NAME, Name, Seq};
+use spec_text::{LimitName, SpecFault, SpecKind};
 use std::alloc::{AllocError, Global};
 use timbuk_lex::{Ending, Lexeme, TokenKind, lex_of};
 
@@ -115,7 +116,7 @@ fn tokens_of(alloc: Global, lexemes: &[Lexeme]) -> Result<Seq<Token>, AllocError
 /// The tokens of a text of fewer than 4,294,967,295 bytes, in order; the text of each is the slice of the bytes that begins at
 /// its `start`. `Fault` exactly where a byte begins no token, a comment or a quoted text has no end, or a word has more than
 /// 255 bytes: the first of these, from the left.
-#[tactic(auto, using(crate::proofs::TokenSlices::in_order_of))]
+#[tactic(auto, using(crate::proofs::keeping::Slices::in_order_of))]
 pub fn tokens(alloc: Global, bytes: &[u8]) -> Result<Seq<Token>, TokenError>
     requires { length bytes.now < 2 ^ 32 - 1 }
     ensures tokens { IfOk result (λ all. all ≡ map tokens.token_of (lexed bytes.now).tokens) }

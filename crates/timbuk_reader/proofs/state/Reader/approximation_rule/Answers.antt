@@ -4,8 +4,8 @@ use Rattle.timbuk_grammar.specs.Grammar.{approximation_rule, one}
 use Rattle.timbuk_grammar.specs.declared.terminal.Terminal.TheVariants as terminal
 use Rattle.timbuk_reader.specs.View.{closed}
 use Rattle.timbuk_reader.specs.Reads.{Leads, Stops}
-use Rattle.timbuk_reader.proofs.StepsApproximationSection.{unbound_leads, rule_stops_at_open, rule_stops_in_whole, rule_stops_at_arrow, rule_stops_in_form, rule_stops_at_bracket, rule_reads, part_after}
-use Rattle.timbuk_reader.proofs.ReaderApproximation.{whole_part}
+use Rattle.timbuk_reader.proofs.parsing.ApproximationSection.{unbound_leads, rule_stops_at_open, rule_stops_in_whole, rule_stops_at_arrow, rule_stops_in_form, rule_stops_at_bracket, rule_reads, part_after}
+use Rattle.timbuk_reader.proofs.keeping.Approximation.{whole_part}
 use Rattle.timbuk_reader.proofs.state.Reader.approximation_rule.Goals as goal
 
 pub returns-in_err-mark-clause-reads : goal.returns-in_err-mark-clause-reads

@@ -1,12 +1,12 @@
 use Rattle.std.proofs.Common.{◌≡◌, ◌≤◌, ◌<◌, min, arith, refl, ap, ◌∙◌}
 use Rattle.timbuk_grammar.specs.declared.terminal.Terminal.TheVariants as terminal
-use Rattle.timbuk_reader.specs.declared.fault.SpecKind.TheVariants as kind
-use Rattle.timbuk_reader.specs.declared.fault.LimitName.TheVariants as limit
-use Rattle.timbuk_reader.specs.Declarations.{adds, value_of}
+use Rattle.spec_text.specs.declared.fault.SpecKind.TheVariants as kind
+use Rattle.spec_text.specs.declared.fault.LimitName.TheVariants as limit
+use Rattle.spec_text.specs.Declarations.{adds, value_of}
 use Rattle.timbuk_reader.specs.View.{closed, naming, declared}
-use Rattle.timbuk_reader.proofs.StepsTokens.{word_leads, word_stops, naming_calm}
-use Rattle.timbuk_reader.proofs.StepsNames.{large_number, small_number}
-use Rattle.timbuk_reader.proofs.ReaderFresh.{fresh_rules, fresh_equations, fresh_entries, fresh_initial, fresh_second}
+use Rattle.timbuk_reader.proofs.parsing.Tokens.{word_leads, word_stops, naming_calm}
+use Rattle.timbuk_reader.proofs.parsing.Names.{large_number, small_number}
+use Rattle.timbuk_reader.proofs.keeping.Fresh.{fresh_rules, fresh_equations, fresh_entries, fresh_initial, fresh_second}
 use Rattle.timbuk_reader.proofs.state.Reader.arity.Goals as goal
 
 pub returns-then-arity-gt-MAX_ARITY-clause-reads : goal.returns-then-arity-gt-MAX_ARITY-clause-reads

@@ -1,9 +1,9 @@
 use Rattle.std.proofs.Common.{◌+◌, arith, sym, ap, ◌∙◌}
 use Rattle.timbuk_grammar.specs.declared.terminal.Terminal.TheVariants as terminal
-use Rattle.timbuk_reader.specs.Declarations.{Declared}
+use Rattle.spec_text.specs.Declarations.{Declared}
 use Rattle.timbuk_reader.specs.View.{closed}
-use Rattle.timbuk_reader.proofs.StepsTokens.{mark_stops, closed_calm}
-use Rattle.timbuk_reader.proofs.StepsAutomaton.{third_stops, automaton_leads}
+use Rattle.timbuk_reader.proofs.parsing.Tokens.{mark_stops, closed_calm}
+use Rattle.timbuk_reader.proofs.parsing.Automaton.{third_stops, automaton_leads}
 use Rattle.timbuk_reader.proofs.state.Reader.automaton_word.Goals as goal
 
 pub returns-then-not-sees-clause-reads : goal.returns-then-not-sees-clause-reads

@@ -4,8 +4,8 @@ use Rattle.timbuk_grammar.specs.Grammar.{entry}
 use Rattle.timbuk_grammar.specs.declared.terminal.Terminal.TheVariants as terminal
 use Rattle.timbuk_reader.specs.Reads.{Stops}
 use Rattle.timbuk_reader.specs.ApproximationReads.{formed}
-use Rattle.timbuk_reader.proofs.StepsApproximationRules.{entry_stops_at_head, entry_stops_in_arguments, entry_stops_at_arrow, entry_stops_at_target, entry_leads, target_leads, took_same, only_then}
-use Rattle.timbuk_reader.proofs.ReaderApproximation.{started_kept}
+use Rattle.timbuk_reader.proofs.parsing.ApproximationRules.{entry_stops_at_head, entry_stops_in_arguments, entry_stops_at_arrow, entry_stops_at_target, entry_leads, target_leads, took_same, only_then}
+use Rattle.timbuk_reader.proofs.keeping.Approximation.{started_kept}
 use Rattle.timbuk_reader.proofs.state.Reader.entry.Goals as goal
 
 pub returns-in_err-entry-clause-reads : goal.returns-in_err-entry-clause-reads

@@ -1,5 +1,5 @@
-use Rattle.timbuk_reader.proofs.StepsApproximationRules.{at_leads}
-use Rattle.timbuk_reader.proofs.ReaderApproximation.{form_is}
+use Rattle.timbuk_reader.proofs.parsing.ApproximationRules.{at_leads}
+use Rattle.timbuk_reader.proofs.keeping.Approximation.{form_is}
 use Rattle.timbuk_reader.proofs.state.Reader.form.Goals as goal
 
 pub returns-clause-ok : goal.returns-clause-ok

@@ -1,11 +1,11 @@
 use Rattle.std.proofs.Common.{◌≡◌, ℕ, ◌<◌, List, [], ◌∷◌, ◌++◌, length, length-append, true, arith, refl, sym, ap, subst, ◌∙◌}
 use Rattle.std.proofs.lemmas.Grind.{common_steps}
-use Rattle.timbuk_reader.specs.Declarations.{Declared, current}
+use Rattle.spec_text.specs.Declarations.{Declared, current}
 use Rattle.timbuk_reader.specs.Kept.{states_are_below}
 use Rattle.timbuk_reader.specs.View.{state_of}
 use Rattle.timbuk_reader.specs.AutomatonReads.{states_of, StopsArguments, SomeArguments}
-use Rattle.timbuk_reader.proofs.ReaderAutomaton.{below_push}
-use Rattle.timbuk_reader.proofs.StepsAutomatonArguments.{lacks_first, lacks_next, lacks_last, first_stops, first_leads, next_stops, next_leads, all_read}
+use Rattle.timbuk_reader.proofs.keeping.Automaton.{below_push}
+use Rattle.timbuk_reader.proofs.parsing.AutomatonArguments.{lacks_first, lacks_next, lacks_last, first_stops, first_leads, next_stops, next_leads, all_read}
 use Rattle.timbuk_reader.proofs.state.Reader.transition_arguments.Goals as goal
 
 pub returns-in_err-first_argument-clause-err : goal.returns-in_err-first_argument-clause-err

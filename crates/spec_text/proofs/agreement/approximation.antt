@@ -1,0 +1,7 @@
+-- The approximation.
+pub mod Entries
+pub mod Rows
+pub mod Section
+pub mod Tokens
+pub mod Variables
+pub mod Wholes
