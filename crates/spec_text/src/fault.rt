@@ -32,36 +32,37 @@ pub enum SpecKind {
     FreeVariable,
 }
 
-/// The limits of an input text. Where several are passed at one token, the first in this order is reported.
+/// The limits of an input text; `most` has their numbers. Where several are passed at one token, the first in this order is
+/// reported.
 #[derive(Clone, Copy, Debug, Drop, PartialEq, Eq)]
 pub enum LimitName {
-    /// The bytes of a name, of the name of a section or of an arity: 255.
+    /// The bytes of a name, of the name of a section or of an arity.
     NameBytes,
-    /// The symbols: 4,096.
+    /// The symbols.
     Symbols,
-    /// The variables that are declared: 1,024.
+    /// The variables that are declared.
     Declared,
-    /// An arity: 16.
+    /// An arity.
     Arity,
-    /// How deep symbols with arguments are nested: 100.
+    /// How deep symbols with arguments are nested.
     Nesting,
-    /// The variables of a rule, of an equation or of an entry: 16.
+    /// The variables of a rule, of an equation or of an entry.
     Variables,
-    /// The rules: 4,096.
+    /// The rules.
     Rules,
-    /// The equations: 1,024.
+    /// The equations.
     Equations,
-    /// The entries of the approximation: 1,024.
+    /// The entries of the approximation.
     Entries,
-    /// The states of an automaton, the approximation's among those of the first: 16,384.
+    /// The states of an automaton, the approximation's among those of the first.
     States,
-    /// The automata: 2.
+    /// The automata.
     Automata,
-    /// The sections `TRS`: 1.
+    /// The sections `TRS`.
     Systems,
-    /// The sections `Equations`: 1.
+    /// The sections `Equations`.
     EquationSections,
-    /// The sections `Approximation`: 1.
+    /// The sections `Approximation`.
     Approximations,
 }
 

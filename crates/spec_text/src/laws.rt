@@ -1,5 +1,6 @@
 //! Laws of input texts. Each function does nothing: its contract is the law.
-ghost use Rattle.spec_text.specs.Laws.{WhatIsReadIsSpelled, WhatIsSpelledIsRead, WhatHasNoFaultIsSpelled, OneSpec, FaultsAreFirst, SpelledHasNoFault, OneFirstFault};
+ghost use Rattle.spec_text.specs.Laws.{WhatIsReadIsSpelled, WhatIsSpelledIsRead, WhatHasNoFaultIsSpelled, OneSpec};
+ghost use Rattle.spec_text.specs.Laws.{FaultsAreFirst, SpelledHasNoFault, OneFirstFault};
 
 /// No row of the table of faults fits a text anywhere exactly where the text spells a specification, and this is what is
 /// read in it.

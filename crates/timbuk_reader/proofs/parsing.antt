@@ -12,3 +12,4 @@ pub mod PatternNames
 pub mod Patterns
 pub mod Sections
 pub mod Tokens
+pub mod TransitionHeads

@@ -183,7 +183,7 @@ pub record IsNewEntry (form : Form) (e : StartedEntry) : Type 0 where
   pub args : e.args ≡ []
   pub own : e.own ≡ []
 
--- a `(` stands behind a symbol of arity 0, and that is told
+-- a `(` stands behind a symbol of arity 0, and that is reported
 pub record HasArguments (r : Reader) (e : SpecError) : Type 0 where
   pub seen : sees terminal.OpenParen r.tokens.now ≡ true
   pub told : e ≡ error.Fault (refusal kind.WrongArity r)

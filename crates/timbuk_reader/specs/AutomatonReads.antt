@@ -14,7 +14,7 @@ use Rattle.spec_text.specs.Rows.{wrong_count}
 use Rattle.spec_text.specs.Reading.{outcome}
 use Rattle.timbuk_reader.specs.View.{Open, closed, declared, state_of, end_of, from}
 use Rattle.spec_text.specs.Reading.{settled}
-use Rattle.timbuk_reader.specs.Reads.{Leads, Stops}
+use Rattle.timbuk_reader.specs.Reads.{Advances, Stops}
 
 -- ---- parts of an automaton's section
 
@@ -97,7 +97,7 @@ UsesState role.TransitionArgument = Unit {0}
 UsesState role.TransitionTarget = Unit {0}
 UsesState _ = ⊥
 
--- whether the next token tells of another number of arguments
+-- whether the next token shows another number of arguments
 abbrev pub miscounts : List Application → List Lexeme → Bool
 miscounts applications [] = false
 miscounts applications (x ∷ rest) = wrong_count applications x
@@ -135,7 +135,7 @@ begun sym arity = record (arguing sym arity []) { last = function }
 
 -- an argument was read, whichever the symbol is that lacks it
 pub record ReadArgument (old : Reader) (state : ℕ) (new : Reader) : Type 0 where
-  pub by : (sym arity : ℕ) (args : List ℕ) → length args < arity → Leads (name role.TransitionArgument) (arguing sym arity args) old (arguing sym arity (args ++ state ∷ [])) new
+  pub by : (sym arity : ℕ) (args : List ℕ) → length args < arity → Advances (name role.TransitionArgument) (arguing sym arity args) old (arguing sym arity (args ++ state ∷ [])) new
 
 -- no argument stands there
 pub record StopsArgument (old : Reader) (e : SpecError) : Type 0 where
@@ -143,7 +143,7 @@ pub record StopsArgument (old : Reader) (e : SpecError) : Type 0 where
 
 -- the arguments were read, whichever the symbol of this arity is
 pub record ReadArguments (arity : ℕ) (old : Reader) (args : List ℕ) (new : Reader) : Type 0 where
-  pub by : (sym : ℕ) → Leads head_arguments (begun sym arity) old (headed (symbol_head sym) args) new
+  pub by : (sym : ℕ) → Advances head_arguments (begun sym arity) old (headed (symbol_head sym) args) new
 
 -- there are no such arguments
 pub record StopsArguments (arity : ℕ) (old : Reader) (e : SpecError) : Type 0 where

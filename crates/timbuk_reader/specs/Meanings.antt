@@ -1,4 +1,4 @@
--- What the reader tells of a name.
+-- What the reader finds of a name.
 use Rattle.timbuk_reader.specs.declared.meaning.Meaning.{Meaning}
 use Rattle.timbuk_reader.specs.declared.meaning.Meaning.TheVariants as told
 use Rattle.spec_text.specs.Declarations as meanings

@@ -14,6 +14,7 @@ use Rattle.spec_text.specs.declared.fault.SpecKind.{SpecKind}
 use Rattle.spec_text.specs.declared.fault.SpecKind.TheVariants as kind
 use Rattle.spec_text.specs.declared.fault.LimitName.{LimitName}
 use Rattle.spec_text.specs.declared.fault.LimitName.TheVariants as limit
+use Rattle.spec_text.specs.Limits.{most}
 use Rattle.timbuk_reader.specs.declared.fault.SpecError.{SpecError}
 use Rattle.timbuk_reader.specs.declared.fault.SpecError.TheVariants as error
 use Rattle.timbuk_reader.specs.declared.state.Reader.{Reader}
@@ -129,14 +130,14 @@ pub data LacksEnd (r : Reader) (e : SpecError) : Type 0 where
 
 -- the limit of rules or of equations, at the first name of a left side
 abbrev pub side_limit : Role → ℕ → ℕ → ℕ → Option LimitName
-side_limit role.LeftSide depth rules equations = when (depth == 0 && nat_le 4096 rules) limit.Rules
-side_limit role.EquationLeft depth rules equations = when (depth == 0 && nat_le 1024 equations) limit.Equations
+side_limit role.LeftSide depth rules equations = when (depth == 0 && nat_le (most limit.Rules) rules) limit.Rules
+side_limit role.EquationLeft depth rules equations = when (depth == 0 && nat_le (most limit.Equations) equations) limit.Equations
 side_limit _ depth rules equations = None
 
 -- the limit of the nesting, or of the variables, and then that one
 abbrev pub pattern_limit : Meaning → ℕ → List ℕ → Option LimitName → Option LimitName
-pattern_limit (a_symbol f arity) depth bound side = if nat_lt 0 arity && nat_le 100 depth then Some limit.Nesting else side
-pattern_limit (a_variable v) depth bound side = if not (has bound v) && nat_le 16 (length bound) then Some limit.Variables else side
+pattern_limit (a_symbol f arity) depth bound side = if nat_lt 0 arity && nat_le (most limit.Nesting) depth then Some limit.Nesting else side
+pattern_limit (a_variable v) depth bound side = if not (has bound v) && nat_le (most limit.Variables) (length bound) then Some limit.Variables else side
 pattern_limit _ depth bound side = side
 
 -- a name that may not stand there
@@ -191,8 +192,8 @@ pub record Advanced (old new : Reader) : Type 0 where
   pub bound : new.bound ≡ old.bound
   pub end : end_of new ≡ end_of old
 
--- a `(` follows, and that is told
-pub record LeadsToParen (k : SpecKind) (old : Reader) (e : SpecError) (new : Reader) : Type 0 where
+-- a `(` follows, and that is reported
+pub record AdvancesToParen (k : SpecKind) (old : Reader) (e : SpecError) (new : Reader) : Type 0 where
   pub advanced : Advanced old new
   pub seen : sees terminal.OpenParen new.tokens.now ≡ true
   pub told : e ≡ error.Fault (refusal k new)
@@ -200,7 +201,7 @@ pub record LeadsToParen (k : SpecKind) (old : Reader) (e : SpecError) (new : Rea
 -- a name is taken, behind which no `(` may follow
 abbrev pub EndsName : {X : Type 0} → SpecKind → Reader → Result X SpecError → Reader → Type 0
 EndsName k old (Ok u) new = Advanced old new × (sees terminal.OpenParen new.tokens.now ≡ false)
-EndsName k old (Err e) new = LeadsToParen k old e new
+EndsName k old (Err e) new = AdvancesToParen k old e new
 
 -- a name stands next that may stand there
 pub record HasHead (p : Role) (depth : ℕ) (r : Reader) (m : Meaning) : Type 0 where

@@ -124,7 +124,7 @@ abbrev pub told : Bool → SpecKind → SpecKind
 told true k = kind.UnknownSection
 told false k = k
 
--- A closed word is told as one, and at the end there is the byte that begins no token, or a token is expected.
+-- A closed word is reported as one, and at the end there is the byte that begins no token, or a token is expected.
 abbrev pub refusal_at : SpecKind → End → List Lexeme → SpecFault
 refusal_at k end [] = end_fault end.ending end
 refusal_at k end (x ∷ rest) = fault (told (is_closed_word x) k) x.line x.column

@@ -9,7 +9,10 @@ ghost use Rattle.spec_text.specs.Rows.{is_in, is_double};
 ghost use Rattle.timbuk_reader.specs.Kept.{states_are_below};
 ghost use Rattle.timbuk_reader.specs.View.{Shorter, closed, started, state_of};
 ghost use Rattle.timbuk_reader.specs.Reads.{Reads};
-ghost use Rattle.timbuk_reader.specs.AutomatonReads.{IsInApproximation, no_arity, described, prior, target, IsInAutomaton, states_of, with_initial_state, with_trans, with_epsilon, NoLonger, SameTokens, MayDeclare, table_of, UsesState, ReadState, StopsState, headed, ReadArgument, StopsArgument, ReadArguments, StopsArguments};
+ghost use Rattle.timbuk_reader.specs.AutomatonReads.{IsInApproximation, no_arity, described, prior, target, IsInAutomaton};
+ghost use Rattle.timbuk_reader.specs.AutomatonReads.{states_of, with_initial_state, with_trans, with_epsilon, NoLonger};
+ghost use Rattle.timbuk_reader.specs.AutomatonReads.{SameTokens, MayDeclare, table_of, UsesState, ReadState, StopsState};
+ghost use Rattle.timbuk_reader.specs.AutomatonReads.{headed, ReadArgument, StopsArgument, ReadArguments, StopsArguments};
 
 use crate::fault::SpecError;
 use crate::meaning::Meaning;
@@ -39,7 +42,13 @@ impl StartedAutomaton {
 
 impl<'s, 'a> Reader<'s, 'a> {
     /// An automaton, from its word on. It is refused where there are two.
-    #[tactic(auto, using(crate::proofs::parsing::Parts::then_reads, crate::proofs::parsing::Parts::then_stops, crate::proofs::parsing::Parts::then_leads, crate::proofs::parsing::Parts::later_stops))]
+    #[rattlefmt::skip]
+    #[tactic(auto, using(
+        crate::proofs::parsing::Parts::then_reads,
+        crate::proofs::parsing::Parts::then_stops,
+        crate::proofs::parsing::Parts::then_advances,
+        crate::proofs::parsing::Parts::later_stops
+    ))]
     pub(crate) fn automaton(&mut self) -> Result<(), SpecError>
         ensures shorter { OnOk result (Shorter self.old self.new) }
         ensures reads { Reads grammar.automaton closed self.old result closed self.new }
@@ -70,7 +79,7 @@ impl<'s, 'a> Reader<'s, 'a> {
         Ok(())
     }
 
-    /// The name of a section, which has no effect. It is refused only as a name of more than 255 bytes.
+    /// The name of a section, which has no effect. It is refused only as a name of more than `MAX_NAME` bytes.
     #[tactic(auto, using(crate::proofs::parsing::Tokens::no_word_stops, crate::proofs::parsing::Tokens::closed_calm))]
     pub(crate) fn title(&mut self) -> Result<(), SpecError>
         ensures shorter { OnOk result (Shorter self.old self.new) }
@@ -111,7 +120,7 @@ impl<'s, 'a> Reader<'s, 'a> {
         self.no_arity()
     }
 
-    /// The name of a state, which is added. It is refused where there are 16,384 states, and where a symbol, a variable or
+    /// The name of a state, which is added. It is refused where there are `MAX_STATES` states, and where a symbol, a variable or
     /// one of these states has the name.
     #[tactic(auto, using(crate::proofs::parsing::Tokens::no_word_stops, crate::proofs::parsing::Tokens::closed_calm))]
     fn state_name(&mut self, role: Role) -> Result<(), SpecError>
@@ -151,10 +160,10 @@ impl<'s, 'a> Reader<'s, 'a> {
         self.is_taken(name) || self.table(role).find(name).is_some()
     }
 
-    /// Adds a state. The only error is want of memory.
+    /// Adds a state. The only error is running out of memory.
     fn add_state(&mut self, role: Role, name: &str) -> Result<(), AllocError>
         requires declares { MayDeclare role self.old }
-        requires room { length (table_of role self.old) < 16384 }
+        requires room { length (table_of role self.old) < MAX_STATES }
         requires new { is_in (table_of role self.old) name.now ≡ false }
         ensures ok { OnOk result (state_of self.new ≡ adds (terminal.Named role) name.now (state_of self.old)) }
         ensures left { OnOk result (SameTokens self.old self.new) }
@@ -166,10 +175,10 @@ impl<'s, 'a> Reader<'s, 'a> {
         }
     }
 
-    /// Adds a state to the automaton that is being read. The only error is want of memory.
+    /// Adds a state to the automaton that is being read. The only error is running out of memory.
     fn add_own_state(&mut self, name: &str) -> Result<(), AllocError>
         requires inside { IsInAutomaton self.old }
-        requires room { length (states_of self.old) < 16384 }
+        requires room { length (states_of self.old) < MAX_STATES }
         requires new { is_in (states_of self.old) name.now ≡ false }
         ensures ok { OnOk result (state_of self.new ≡ adds (terminal.Named role.State) name.now (state_of self.old)) }
         ensures left { OnOk result (SameTokens self.old self.new) }
@@ -182,10 +191,10 @@ impl<'s, 'a> Reader<'s, 'a> {
         }
     }
 
-    /// Adds a state behind those of the initial automaton. The only error is want of memory.
+    /// Adds a state behind those of the initial automaton. The only error is running out of memory.
     fn add_initial_state(&mut self, name: &str) -> Result<(), AllocError>
         requires early { self.old.entries ≡ [] }
-        requires room { length self.old.initial.states < 16384 }
+        requires room { length self.old.initial.states < MAX_STATES }
         requires new { is_in self.old.initial.states name.now ≡ false }
         ensures ok { OnOk result (state_of self.new ≡ with_initial_state name.now (state_of self.old)) }
         ensures left { OnOk result (SameTokens self.old self.new) }
@@ -193,12 +202,13 @@ impl<'s, 'a> Reader<'s, 'a> {
         self.initial.states.add(name)
     }
 
-    /// Adds a state of the approximation behind those of the initial automaton. The only error is want of memory.
+    /// Adds a state of the approximation behind those of the initial automaton. The only error is running out of memory.
     fn add_extra_state(&mut self, name: &str) -> Result<(), AllocError>
         requires inside { IsInApproximation self.old }
-        requires room { length self.old.initial.states < 16384 }
+        requires room { length self.old.initial.states < MAX_STATES }
         requires new { is_in self.old.initial.states name.now ≡ false }
-        ensures ok { OnOk result (state_of self.new ≡ adds (terminal.Named role.ApproximationState) name.now (state_of self.old)) }
+        ensures ok { OnOk result (state_of self.new
+            ≡ adds (terminal.Named role.ApproximationState) name.now (state_of self.old)) }
         ensures left { OnOk result (SameTokens self.old self.new) }
         ensures inside { OnOk result (IsInApproximation self.new) }
     {
@@ -208,7 +218,15 @@ impl<'s, 'a> Reader<'s, 'a> {
     }
 
     /// The arity 0 of a state, which may be left out.
-    #[tactic(auto, using(crate::proofs::parsing::Parts::then_reads, crate::proofs::parsing::Parts::then_stops, crate::proofs::parsing::Parts::then_head, crate::proofs::parsing::Parts::maybe_reads, crate::proofs::parsing::Parts::maybe_stops, crate::proofs::parsing::Parts::maybe_none))]
+    #[rattlefmt::skip]
+    #[tactic(auto, using(
+        crate::proofs::parsing::Parts::then_reads,
+        crate::proofs::parsing::Parts::then_stops,
+        crate::proofs::parsing::Parts::then_head,
+        crate::proofs::parsing::Parts::maybe_reads,
+        crate::proofs::parsing::Parts::maybe_stops,
+        crate::proofs::parsing::Parts::maybe_none
+    ))]
     fn no_arity(&mut self) -> Result<(), SpecError>
         ensures no_longer { OnOk result (NoLonger self.old self.new) }
         ensures reads { Reads no_arity closed self.old result closed self.new }
@@ -245,7 +263,15 @@ impl<'s, 'a> Reader<'s, 'a> {
     }
 
     /// The descriptions of states, if there are any, which have no effect.
-    #[tactic(auto, using(crate::proofs::parsing::Parts::then_reads, crate::proofs::parsing::Parts::then_stops, crate::proofs::parsing::Parts::then_head, crate::proofs::parsing::Parts::maybe_reads, crate::proofs::parsing::Parts::maybe_stops, crate::proofs::parsing::Parts::maybe_none))]
+    #[rattlefmt::skip]
+    #[tactic(auto, using(
+        crate::proofs::parsing::Parts::then_reads,
+        crate::proofs::parsing::Parts::then_stops,
+        crate::proofs::parsing::Parts::then_head,
+        crate::proofs::parsing::Parts::maybe_reads,
+        crate::proofs::parsing::Parts::maybe_stops,
+        crate::proofs::parsing::Parts::maybe_none
+    ))]
     fn description(&mut self) -> Result<(), SpecError>
         ensures no_longer { OnOk result (NoLonger self.old self.new) }
         ensures reads { Reads (grammar.maybe grammar.description) closed self.old result closed self.new }
@@ -259,7 +285,14 @@ impl<'s, 'a> Reader<'s, 'a> {
     }
 
     /// States with their descriptions, as many as there are.
-    #[tactic(auto, using(crate::proofs::parsing::Parts::turns_start, crate::proofs::parsing::Parts::turns_again, crate::proofs::parsing::Parts::turns_stop, crate::proofs::parsing::Parts::turns_err, crate::proofs::parsing::Parts::then_head))]
+    #[rattlefmt::skip]
+    #[tactic(auto, using(
+        crate::proofs::parsing::Parts::turns_start,
+        crate::proofs::parsing::Parts::turns_again,
+        crate::proofs::parsing::Parts::turns_stop,
+        crate::proofs::parsing::Parts::turns_err,
+        crate::proofs::parsing::Parts::then_head
+    ))]
     fn all_described(&mut self) -> Result<(), SpecError>
         ensures no_longer { OnOk result (NoLonger self.old self.new) }
         ensures reads { Reads (grammar.many described) closed self.old result closed self.new }
@@ -272,7 +305,15 @@ impl<'s, 'a> Reader<'s, 'a> {
     }
 
     /// A state of the automaton with its description.
-    #[tactic(auto, using(crate::proofs::parsing::Parts::then_reads, crate::proofs::parsing::Parts::then_stops, crate::proofs::parsing::Parts::then_leads, crate::proofs::parsing::Parts::later_stops, crate::proofs::parsing::Automaton::described_leads, crate::proofs::parsing::Automaton::stops_closed))]
+    #[rattlefmt::skip]
+    #[tactic(auto, using(
+        crate::proofs::parsing::Parts::then_reads,
+        crate::proofs::parsing::Parts::then_stops,
+        crate::proofs::parsing::Parts::then_advances,
+        crate::proofs::parsing::Parts::later_stops,
+        crate::proofs::parsing::Automaton::described_advances,
+        crate::proofs::parsing::Automaton::stops_closed
+    ))]
     fn described_state(&mut self) -> Result<(), SpecError>
         ensures shorter { OnOk result (Shorter self.old self.new) }
         ensures reads { Reads described closed self.old result closed self.new }
@@ -284,7 +325,13 @@ impl<'s, 'a> Reader<'s, 'a> {
     }
 
     /// The final states.
-    #[tactic(auto, using(crate::proofs::parsing::Parts::then_reads, crate::proofs::parsing::Parts::then_stops, crate::proofs::parsing::Parts::then_leads, crate::proofs::parsing::Parts::later_stops))]
+    #[rattlefmt::skip]
+    #[tactic(auto, using(
+        crate::proofs::parsing::Parts::then_reads,
+        crate::proofs::parsing::Parts::then_stops,
+        crate::proofs::parsing::Parts::then_advances,
+        crate::proofs::parsing::Parts::later_stops
+    ))]
     fn final_states(&mut self) -> Result<(), SpecError>
         requires { IsInAutomaton self.old }
         ensures shorter { OnOk result (Shorter self.old self.new) }
@@ -297,7 +344,14 @@ impl<'s, 'a> Reader<'s, 'a> {
     }
 
     /// Names of final states, as many as there are.
-    #[tactic(auto, using(crate::proofs::parsing::Parts::turns_start, crate::proofs::parsing::Parts::turns_again, crate::proofs::parsing::Parts::turns_stop, crate::proofs::parsing::Parts::turns_err, crate::proofs::parsing::Parts::one_head))]
+    #[rattlefmt::skip]
+    #[tactic(auto, using(
+        crate::proofs::parsing::Parts::turns_start,
+        crate::proofs::parsing::Parts::turns_again,
+        crate::proofs::parsing::Parts::turns_stop,
+        crate::proofs::parsing::Parts::turns_err,
+        crate::proofs::parsing::Parts::one_head
+    ))]
     fn all_finals(&mut self) -> Result<(), SpecError>
         requires { IsInAutomaton self.old }
         ensures no_longer { OnOk result (NoLonger self.old self.new) }
@@ -311,7 +365,7 @@ impl<'s, 'a> Reader<'s, 'a> {
     }
 
     /// A final state, which is added.
-    #[tactic(auto, using(crate::proofs::parsing::Automaton::final_leads, crate::proofs::parsing::Automaton::stops_closed))]
+    #[tactic(auto, using(crate::proofs::parsing::Automaton::final_advances, crate::proofs::parsing::Automaton::stops_closed))]
     fn final_state(&mut self) -> Result<(), SpecError>
         requires { IsInAutomaton self.old }
         ensures shorter { OnOk result (Shorter self.old self.new) }
@@ -323,7 +377,7 @@ impl<'s, 'a> Reader<'s, 'a> {
         Ok(())
     }
 
-    /// Adds a final state to the automaton that is being read. The only error is want of memory.
+    /// Adds a final state to the automaton that is being read. The only error is running out of memory.
     fn add_final(&mut self, state: u32) -> Result<(), AllocError>
         requires inside { IsInAutomaton self.old }
         requires below { state < length (states_of self.old) }
@@ -342,7 +396,13 @@ impl<'s, 'a> Reader<'s, 'a> {
 
 impl<'s, 'a> Reader<'s, 'a> {
     /// The transitions, those under `Prior` first.
-    #[tactic(auto, using(crate::proofs::parsing::Parts::then_reads, crate::proofs::parsing::Parts::then_stops, crate::proofs::parsing::Parts::then_leads, crate::proofs::parsing::Parts::later_stops))]
+    #[rattlefmt::skip]
+    #[tactic(auto, using(
+        crate::proofs::parsing::Parts::then_reads,
+        crate::proofs::parsing::Parts::then_stops,
+        crate::proofs::parsing::Parts::then_advances,
+        crate::proofs::parsing::Parts::later_stops
+    ))]
     fn transitions(&mut self) -> Result<(), SpecError>
         requires { IsInAutomaton self.old }
         ensures no_longer { OnOk result (NoLonger self.old self.new) }
@@ -354,7 +414,15 @@ impl<'s, 'a> Reader<'s, 'a> {
     }
 
     /// The transitions under `Prior`, if there are any.
-    #[tactic(auto, using(crate::proofs::parsing::Parts::then_reads, crate::proofs::parsing::Parts::then_stops, crate::proofs::parsing::Parts::then_head, crate::proofs::parsing::Parts::maybe_reads, crate::proofs::parsing::Parts::maybe_stops, crate::proofs::parsing::Parts::maybe_none))]
+    #[rattlefmt::skip]
+    #[tactic(auto, using(
+        crate::proofs::parsing::Parts::then_reads,
+        crate::proofs::parsing::Parts::then_stops,
+        crate::proofs::parsing::Parts::then_head,
+        crate::proofs::parsing::Parts::maybe_reads,
+        crate::proofs::parsing::Parts::maybe_stops,
+        crate::proofs::parsing::Parts::maybe_none
+    ))]
     fn prior(&mut self) -> Result<(), SpecError>
         requires { IsInAutomaton self.old }
         ensures no_longer { OnOk result (NoLonger self.old self.new) }
@@ -369,7 +437,14 @@ impl<'s, 'a> Reader<'s, 'a> {
     }
 
     /// Transitions, as many as there are.
-    #[tactic(auto, using(crate::proofs::parsing::Parts::turns_start, crate::proofs::parsing::Parts::turns_again, crate::proofs::parsing::Parts::turns_stop, crate::proofs::parsing::Parts::turns_err, crate::proofs::parsing::Parts::then_head))]
+    #[rattlefmt::skip]
+    #[tactic(auto, using(
+        crate::proofs::parsing::Parts::turns_start,
+        crate::proofs::parsing::Parts::turns_again,
+        crate::proofs::parsing::Parts::turns_stop,
+        crate::proofs::parsing::Parts::turns_err,
+        crate::proofs::parsing::Parts::then_head
+    ))]
     fn all_transitions(&mut self) -> Result<(), SpecError>
         requires { IsInAutomaton self.old }
         ensures no_longer { OnOk result (NoLonger self.old self.new) }
@@ -411,7 +486,15 @@ impl<'s, 'a> Reader<'s, 'a> {
     }
 
     /// The target of an epsilon transition from this state, which is added.
-    #[tactic(auto, using(crate::proofs::parsing::Parts::then_stops, crate::proofs::parsing::Parts::later_stops, crate::proofs::parsing::Tokens::mark_leads, crate::proofs::parsing::Tokens::mark_stops, crate::proofs::parsing::Automaton::headed_calm, crate::proofs::parsing::Automaton::target_stops))]
+    #[rattlefmt::skip]
+    #[tactic(auto, using(
+        crate::proofs::parsing::Parts::then_stops,
+        crate::proofs::parsing::Parts::later_stops,
+        crate::proofs::parsing::Tokens::mark_advances,
+        crate::proofs::parsing::Tokens::mark_stops,
+        crate::proofs::parsing::Automaton::headed_calm,
+        crate::proofs::parsing::Automaton::target_stops
+    ))]
     fn epsilon_target(&mut self, from: u32) -> Result<(), SpecError>
         requires inside { IsInAutomaton self.old }
         requires below { from < length (states_of self.old) }
@@ -426,7 +509,15 @@ impl<'s, 'a> Reader<'s, 'a> {
     }
 
     /// The target of a transition from this symbol with these arguments, which is added.
-    #[tactic(auto, using(crate::proofs::parsing::Parts::then_stops, crate::proofs::parsing::Parts::later_stops, crate::proofs::parsing::Tokens::mark_leads, crate::proofs::parsing::Tokens::mark_stops, crate::proofs::parsing::Automaton::headed_calm, crate::proofs::parsing::Automaton::target_stops))]
+    #[rattlefmt::skip]
+    #[tactic(auto, using(
+        crate::proofs::parsing::Parts::then_stops,
+        crate::proofs::parsing::Parts::later_stops,
+        crate::proofs::parsing::Tokens::mark_advances,
+        crate::proofs::parsing::Tokens::mark_stops,
+        crate::proofs::parsing::Automaton::headed_calm,
+        crate::proofs::parsing::Automaton::target_stops
+    ))]
     fn transition_target(&mut self, sym: u32, args: Seq<u32>) -> Result<(), SpecError>
         requires inside { IsInAutomaton self.old }
         requires over { IsTrue (is_symbol self.old.signature sym (length args)) }
@@ -442,7 +533,7 @@ impl<'s, 'a> Reader<'s, 'a> {
         Ok(())
     }
 
-    /// Adds an epsilon transition to the automaton that is being read. The only error is want of memory.
+    /// Adds an epsilon transition to the automaton that is being read. The only error is running out of memory.
     fn add_epsilon(&mut self, from: u32, to: u32) -> Result<(), AllocError>
         requires inside { IsInAutomaton self.old }
         requires from_below { from < length (states_of self.old) }
@@ -457,7 +548,7 @@ impl<'s, 'a> Reader<'s, 'a> {
         }
     }
 
-    /// Adds a transition to the automaton that is being read. The only error is want of memory.
+    /// Adds a transition to the automaton that is being read. The only error is running out of memory.
     fn add_transition(&mut self, trans: Trans) -> Result<(), AllocError>
         requires inside { IsInAutomaton self.old }
         requires over { IsTrue (is_symbol self.old.signature trans.sym (length trans.args)) }

@@ -123,7 +123,7 @@ impl<'s, 'a> Reader<'s, 'a> {
     }
 
     /// The word that stands next, a name or an arity. Any other token is refused as not expected, and a word of more than
-    /// 255 bytes as too long.
+    /// `MAX_NAME` bytes as too long.
     pub(crate) fn word(&self, terminal: Terminal) -> Result<&'a str, SpecError>
         requires { IsWordly terminal }
         ensures ok { IfOk result (λ text. Stands terminal self.now text.now) }

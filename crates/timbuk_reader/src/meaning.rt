@@ -104,7 +104,8 @@ impl<'s, 'a> Reader<'s, 'a> {
     /// The states that may stand in the place: those of the automaton that is declared last, or those of the initial
     /// automaton and of the approximation. `None` where no state may stand.
     fn states_at(&self, role: Role) -> Option<&NameTable>
-        ensures { MatchOption result (states_at (state_of self.now) role ≡ []) (λ states. states.now ≡ states_at (state_of self.now) role) }
+        ensures { MatchOption result (states_at (state_of self.now) role ≡ [])
+            (λ states. states.now ≡ states_at (state_of self.now) role) }
     {
         match role {
             Role::DescribedState

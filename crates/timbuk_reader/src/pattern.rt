@@ -7,7 +7,8 @@ ghost use Rattle.timbuk_reader.specs.Meanings.{meant_by};
 ghost use Rattle.timbuk_reader.specs.Reads.{Took};
 ghost use Rattle.timbuk_reader.specs.View.{Shorter};
 ghost use Rattle.spec_text.specs.Reading.{sees};
-ghost use Rattle.timbuk_reader.specs.Patterns.{IsPatternRole, HasHead, Breaks, BuildsAt, AppliesAll, Fits, AllFit, IsNoVariable, LacksArguments, LacksArgument, LacksEnd, EndsName, SameBut};
+ghost use Rattle.timbuk_reader.specs.Patterns.{IsPatternRole, HasHead, Breaks, BuildsAt, AppliesAll, Fits, AllFit};
+ghost use Rattle.timbuk_reader.specs.Patterns.{IsNoVariable, LacksArguments, LacksArgument, LacksEnd, EndsName, SameBut};
 ghost use Rattle.timbuk_reader.specs.Patterns as rows;
 
 use crate::fault::SpecError;
@@ -24,7 +25,7 @@ impl<'s, 'a> Reader<'s, 'a> {
     #[cycle(pattern)]
     pub(crate) fn pattern(&mut self, role: Role, depth: u32) -> Result<Shape, SpecError>
         requires role { IsPatternRole role }
-        requires depth { depth ≤ 100 }
+        requires depth { depth ≤ MAX_NESTING }
         ensures shorter { OnOk result (Shorter self.old self.new) }
         ensures reads { BuildsAt role depth self.old result self.new }
         ensures fits { IfOk result (λ shape. Fits role self.old shape self.new) }
@@ -54,7 +55,7 @@ impl<'s, 'a> Reader<'s, 'a> {
         depth: u32,
     ) -> Result<Seq<Shape>, SpecError>
         requires role { IsPatternRole role }
-        requires depth { depth < 100 }
+        requires depth { depth < MAX_NESTING }
         requires some { 0 < arity }
         ensures shorter { OnOk result (Shorter self.old self.new) }
         ensures reads { AppliesAll role sym arity depth self.old result self.new }
@@ -193,9 +194,9 @@ impl<'s, 'a> Reader<'s, 'a> {
         self.bound = Seq::new(self.alloc);
     }
 
-    /// Notes that the variable stands in the declaration that is being read. The only error is want of memory.
+    /// Notes that the variable stands in the declaration that is being read. The only error is running out of memory.
     pub(crate) fn bind(&mut self, variable: u32) -> Result<(), AllocError>
-        requires { has self.old.bound variable ≡ false → length self.old.bound < 16 }
+        requires { has self.old.bound variable ≡ false → length self.old.bound < MAX_VARIABLES }
         ensures bound { OnOk result (self.new.bound ≡ with_variable self.old.bound variable) }
         ensures same { OnOk result (SameBut self.old self.new) }
         ensures tokens { self.new.tokens.now ≡ self.old.tokens.now }
@@ -229,7 +230,8 @@ impl<'s, 'a> Reader<'s, 'a> {
 
     /// The first limit that a name in a pattern passes: the nesting, the variables, the rules or the equations.
     fn pattern_limit(&self, role: Role, depth: u32, meaning: Meaning) -> Option<LimitName>
-        ensures { result ≡ rows.pattern_limit (meant_by meaning) depth self.now.bound (rows.side_limit role depth (length self.now.rules) (length self.now.equations)) }
+        ensures { result ≡ rows.pattern_limit (meant_by meaning) depth self.now.bound
+            (rows.side_limit role depth (length self.now.rules) (length self.now.equations)) }
     {
         match meaning {
             Meaning::Symbol(_, arity) if arity > 0 && depth >= MAX_NESTING => {

@@ -144,9 +144,10 @@ impl<'s, 'a> Reader<'s, 'a> {
     }
 }
 
-/// The shape as a pattern. `None` exactly where a state stands in it. The only error is want of memory.
+/// The shape as a pattern. `None` exactly where a state stands in it. The only error is running out of memory.
 fn pattern_of(alloc: Global, shape: &Shape) -> Result<Option<Pattern>, AllocError>
-    ensures { IfOk result (λ found. MatchOption found (shape_is_below 0 shape.now ≡ false) (λ pattern. shape_of pattern ≡ shape.now)) }
+    ensures { IfOk result (λ found. MatchOption found (shape_is_below 0 shape.now ≡ false)
+        (λ pattern. shape_of pattern ≡ shape.now)) }
 {
     match shape {
         Shape::Var(variable) => Ok(Some(Pattern::Var(*variable))),

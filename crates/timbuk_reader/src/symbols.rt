@@ -7,7 +7,7 @@ ghost use Rattle.timbuk_grammar.specs.declared.terminal.Terminal.TheVariants as 
 ghost use Rattle.spec_text.specs.Declarations.{value_of};
 ghost use Rattle.spec_text.specs.Rows.{is_in};
 ghost use Rattle.timbuk_reader.specs.View.{Shorter, closed, naming};
-ghost use Rattle.timbuk_reader.specs.Reads.{Leads, Stops, Reads, IsFresh, IsNewSymbol};
+ghost use Rattle.timbuk_reader.specs.Reads.{Advances, Stops, Reads, IsFresh, IsNewSymbol};
 
 use crate::fault::SpecError;
 use crate::state::Reader;
@@ -17,7 +17,15 @@ use timbuk_grammar::{Role, Terminal};
 
 impl<'s, 'a> Reader<'s, 'a> {
     /// The symbols, if the text declares any: `Ops`, and names with their arities.
-    #[tactic(auto, using(crate::proofs::parsing::Parts::then_reads, crate::proofs::parsing::Parts::then_stops, crate::proofs::parsing::Parts::then_head, crate::proofs::parsing::Parts::maybe_reads, crate::proofs::parsing::Parts::maybe_stops, crate::proofs::parsing::Parts::maybe_none))]
+    #[rattlefmt::skip]
+    #[tactic(auto, using(
+        crate::proofs::parsing::Parts::then_reads,
+        crate::proofs::parsing::Parts::then_stops,
+        crate::proofs::parsing::Parts::then_head,
+        crate::proofs::parsing::Parts::maybe_reads,
+        crate::proofs::parsing::Parts::maybe_stops,
+        crate::proofs::parsing::Parts::maybe_none
+    ))]
     pub(crate) fn ops(&mut self) -> Result<(), SpecError>
         requires { IsFresh self.old }
         ensures reads { Reads (grammar.maybe grammar.ops) closed self.old result closed self.new }
@@ -31,7 +39,14 @@ impl<'s, 'a> Reader<'s, 'a> {
     }
 
     /// Names with their arities, as many as there are.
-    #[tactic(auto, using(crate::proofs::parsing::Parts::turns_start, crate::proofs::parsing::Parts::turns_again, crate::proofs::parsing::Parts::turns_stop, crate::proofs::parsing::Parts::turns_err, crate::proofs::parsing::Parts::then_head))]
+    #[rattlefmt::skip]
+    #[tactic(auto, using(
+        crate::proofs::parsing::Parts::turns_start,
+        crate::proofs::parsing::Parts::turns_again,
+        crate::proofs::parsing::Parts::turns_stop,
+        crate::proofs::parsing::Parts::turns_err,
+        crate::proofs::parsing::Parts::then_head
+    ))]
     fn all_ops(&mut self) -> Result<(), SpecError>
         requires { IsFresh self.old }
         ensures reads { Reads (grammar.many grammar.op) closed self.old result closed self.new }
@@ -44,7 +59,16 @@ impl<'s, 'a> Reader<'s, 'a> {
     }
 
     /// A name with its arity.
-    #[tactic(auto, using(crate::proofs::parsing::Parts::then_leads, crate::proofs::parsing::Parts::then_stops, crate::proofs::parsing::Parts::later_stops, crate::proofs::parsing::Parts::then_reads, crate::proofs::parsing::Tokens::mark_leads, crate::proofs::parsing::Tokens::mark_stops, crate::proofs::parsing::Tokens::naming_calm))]
+    #[rattlefmt::skip]
+    #[tactic(auto, using(
+        crate::proofs::parsing::Parts::then_advances,
+        crate::proofs::parsing::Parts::then_stops,
+        crate::proofs::parsing::Parts::later_stops,
+        crate::proofs::parsing::Parts::then_reads,
+        crate::proofs::parsing::Tokens::mark_advances,
+        crate::proofs::parsing::Tokens::mark_stops,
+        crate::proofs::parsing::Tokens::naming_calm
+    ))]
     fn op(&mut self) -> Result<(), SpecError>
         requires { IsFresh self.old }
         ensures shorter { OnOk result (Shorter self.old self.new) }
@@ -56,12 +80,12 @@ impl<'s, 'a> Reader<'s, 'a> {
         self.arity(name)
     }
 
-    /// The name of a symbol. It is refused where there are 4,096 symbols, and where one of them has the name.
+    /// The name of a symbol. It is refused where there are `MAX_SYMBOLS` symbols, and where one of them has the name.
     #[tactic(auto, using(crate::proofs::parsing::Tokens::no_word_stops, crate::proofs::parsing::Tokens::closed_calm))]
     fn symbol_name(&mut self) -> Result<&'a str, SpecError>
         requires { IsFresh self.old }
         ensures shorter { OnOk result (Shorter self.old self.new) }
-        ensures ok { IfOk result (λ name. Leads (grammar.name role.Symbol) closed self.old (naming name.now) self.new) }
+        ensures ok { IfOk result (λ name. Advances (grammar.name role.Symbol) closed self.old (naming name.now) self.new) }
         ensures err { IfErr result (Stops (grammar.name role.Symbol) closed self.old) }
         ensures new { IfOk result (λ name. IsNewSymbol self.new.signature name.now) }
         ensures fresh { OnOk result (IsFresh self.new) }
@@ -77,7 +101,7 @@ impl<'s, 'a> Reader<'s, 'a> {
         Ok(name)
     }
 
-    /// The arity of the symbol of this name, which is added. It is refused above 16.
+    /// The arity of the symbol of this name, which is added. It is refused above `MAX_ARITY`.
     #[tactic(auto, using(crate::proofs::parsing::Tokens::no_word_stops, crate::proofs::parsing::Tokens::naming_calm))]
     fn arity(&mut self, name: &str) -> Result<(), SpecError>
         requires fresh { IsFresh self.old }
@@ -108,7 +132,15 @@ impl<'s, 'a> Reader<'s, 'a> {
     }
 
     /// The variables, if the text declares any: `Vars`, and names.
-    #[tactic(auto, using(crate::proofs::parsing::Parts::then_reads, crate::proofs::parsing::Parts::then_stops, crate::proofs::parsing::Parts::then_head, crate::proofs::parsing::Parts::maybe_reads, crate::proofs::parsing::Parts::maybe_stops, crate::proofs::parsing::Parts::maybe_none))]
+    #[rattlefmt::skip]
+    #[tactic(auto, using(
+        crate::proofs::parsing::Parts::then_reads,
+        crate::proofs::parsing::Parts::then_stops,
+        crate::proofs::parsing::Parts::then_head,
+        crate::proofs::parsing::Parts::maybe_reads,
+        crate::proofs::parsing::Parts::maybe_stops,
+        crate::proofs::parsing::Parts::maybe_none
+    ))]
     pub(crate) fn vars(&mut self) -> Result<(), SpecError>
         ensures { Reads (grammar.maybe grammar.vars) closed self.old result closed self.new }
     {
@@ -120,7 +152,14 @@ impl<'s, 'a> Reader<'s, 'a> {
     }
 
     /// Names of variables, as many as there are.
-    #[tactic(auto, using(crate::proofs::parsing::Parts::turns_start, crate::proofs::parsing::Parts::turns_again, crate::proofs::parsing::Parts::turns_stop, crate::proofs::parsing::Parts::turns_err, crate::proofs::parsing::Parts::one_head))]
+    #[rattlefmt::skip]
+    #[tactic(auto, using(
+        crate::proofs::parsing::Parts::turns_start,
+        crate::proofs::parsing::Parts::turns_again,
+        crate::proofs::parsing::Parts::turns_stop,
+        crate::proofs::parsing::Parts::turns_err,
+        crate::proofs::parsing::Parts::one_head
+    ))]
     fn all_vars(&mut self) -> Result<(), SpecError>
         ensures { Reads (grammar.many (grammar.name role.Variable)) closed self.old result closed self.new }
     {
@@ -130,8 +169,8 @@ impl<'s, 'a> Reader<'s, 'a> {
         Ok(())
     }
 
-    /// The name of a variable, which is added. It is refused where there are 1,024 variables, and where a symbol or a variable
-    /// has the name.
+    /// The name of a variable, which is added. It is refused where there are `MAX_DECLARED` variables, and where a symbol or a
+    /// variable has the name.
     #[tactic(auto, using(crate::proofs::parsing::Tokens::no_word_stops, crate::proofs::parsing::Tokens::closed_calm))]
     fn variable_name(&mut self) -> Result<(), SpecError>
         ensures shorter { OnOk result (Shorter self.old self.new) }

@@ -1,4 +1,5 @@
 -- The approximation.
+pub mod Arguments
 pub mod Entries
 pub mod Rows
 pub mod Section

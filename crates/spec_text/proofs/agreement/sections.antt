@@ -1,4 +1,5 @@
 -- Sections, and whole texts.
+pub mod Allowed
 pub mod Files
 pub mod Many
 pub mod One

@@ -25,7 +25,7 @@ use Rattle.spec_text.specs.Source.{Arrow, AutomatonDeclaration}
 use Rattle.spec_text.specs.Spelled.{IsAutomatonOf}
 use Rattle.spec_text.specs.SpecText.{IsAscendingSet}
 use Rattle.spec_text.proofs.agreement.automata.Section.{no_symbol, started_by}
-use Rattle.spec_text.proofs.agreement.sections.Parts.{IsDeclarable}
+use Rattle.spec_text.proofs.agreement.sections.Allowed.{IsDeclarable}
 use Rattle.spec_text.proofs.agreement.sections.States.{initial_of, second_of}
 
 -- ---- sets

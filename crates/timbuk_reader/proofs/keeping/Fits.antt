@@ -105,7 +105,7 @@ module _ (p : Role) (r : Reader) where
         same = same_then r u v at_u h.same;
       }
 
--- ---- what the rows tell
+-- ---- what the rows say
 
 second_none : {A : Type 0} (o u : Option A) → or o u ≡ None → (o ≡ None) × (u ≡ None)
 second_none None u e = (refl, e)

@@ -75,7 +75,7 @@ some_arity [] f h = absurd (omega arith)
 some_arity (s ∷ symbols) zero h = refl
 some_arity (s ∷ symbols) (suc f) h = some_arity symbols f (omega arith)
 
--- a symbol has the arity that is told
+-- a symbol has the arity that is answered
 pub symbol_arity : (d : Declared) (p : Role) (name : Text) (f n : ℕ) → meaning d p name ≡ a_symbol f n → arity_of d.symbols f ≡ Some n
 unfolding meaning
 symbol_arity d p name f n e =

@@ -37,12 +37,12 @@ use Rattle.spec_text.specs.Reading.{outcome}
 use Rattle.spec_text.specs.Naming.{shape_of}
 use Rattle.timbuk_reader.specs.View.{Open, closed, declared, state_of, end_of, from, as_error, refusal, refusal_at, rule_shapes, equation_shapes}
 use Rattle.spec_text.specs.Reading.{settled, sees}
-use Rattle.timbuk_reader.specs.Reads.{Leads, Stops, IsCalm, Took, Missed}
+use Rattle.timbuk_reader.specs.Reads.{Advances, Stops, IsCalm, Took, Missed}
 use Rattle.timbuk_reader.specs.Patterns.{within, IsFirstSide, Builds, Breaks, IsSpot, SameBut}
 use Rattle.spec_text.specs.lemmas.Variables.{Binds}
 use Rattle.timbuk_reader.specs.Sides.{IsSide}
-use Rattle.timbuk_reader.proofs.parsing.Parts.{one_front, then_leads, then_stops, later_stops}
-use Rattle.timbuk_reader.proofs.parsing.Tokens.{IsOther, use_row, row_other, step_on, step_fault, calm_quiet, mark_leads, mark_stops}
+use Rattle.timbuk_reader.proofs.parsing.Parts.{one_front, then_advances, then_stops, later_stops}
+use Rattle.timbuk_reader.proofs.parsing.Tokens.{IsOther, use_row, row_other, step_on, step_fault, calm_quiet, mark_advances, mark_stops}
 use Rattle.timbuk_reader.proofs.keeping.Fits.{all_on, same_signature, no_variable}
 use Rattle.spec_text.specs.lemmas.Variables.{left_binds, right_binds, binds_firsts}
 
@@ -59,14 +59,14 @@ module _ (r : Reader) (unbound : r.bound ≡ []) where
   start : (ps : List Part) → from closed ps r ≡ from (within [] []) ps r
   start ps = ap (λ d. settled (outcome (end_of r) ps d r.tokens.now)) opens
 
-  pub left_leads : (s : Shape) (u : Reader) → Builds role.LeftSide 0 r s u → Leads (pattern role.LeftSide) closed r (within [] (s ∷ [])) u
-  left_leads s u h = record { by = λ ps. start (pattern role.LeftSide ∷ ps) ∙ h.by ps [] [] (no_applications role.LeftSide [] refl) }
+  pub left_advances : (s : Shape) (u : Reader) → Builds role.LeftSide 0 r s u → Advances (pattern role.LeftSide) closed r (within [] (s ∷ [])) u
+  left_advances s u h = record { by = λ ps. start (pattern role.LeftSide ∷ ps) ∙ h.by ps [] [] (no_applications role.LeftSide [] refl) }
 
   pub left_stops : (e : SpecError) → Breaks role.LeftSide 0 r e → Stops (pattern role.LeftSide) closed r e
   left_stops e h = record { by = λ ne ps. ap as_error (start (pattern role.LeftSide ∷ ps)) ∙ h.by ne ps [] [] (no_applications role.LeftSide [] refl) }
 
-  pub equated_leads : (s : Shape) (u : Reader) → Builds role.EquationLeft 0 r s u → Leads (pattern role.EquationLeft) closed r (within [] (s ∷ [])) u
-  equated_leads s u h = record { by = λ ps. start (pattern role.EquationLeft ∷ ps) ∙ h.by ps [] [] (no_applications role.EquationLeft [] refl) }
+  pub equated_advances : (s : Shape) (u : Reader) → Builds role.EquationLeft 0 r s u → Advances (pattern role.EquationLeft) closed r (within [] (s ∷ [])) u
+  equated_advances s u h = record { by = λ ps. start (pattern role.EquationLeft ∷ ps) ∙ h.by ps [] [] (no_applications role.EquationLeft [] refl) }
 
   pub equated_stops : (e : SpecError) → Breaks role.EquationLeft 0 r e → Stops (pattern role.EquationLeft) closed r e
   equated_stops e h = record { by = λ ne ps. ap as_error (start (pattern role.EquationLeft ∷ ps)) ∙ h.by ne ps [] [] (no_applications role.EquationLeft [] refl) }
@@ -75,16 +75,16 @@ module _ (r : Reader) (unbound : r.bound ≡ []) where
 pub side_calm : (s : Shape) → IsCalm (within [] (s ∷ []))
 side_calm s = record { applications = refl; last = refl }
 
-pub right_leads : (l s : Shape) (m u v : Reader) → Builds role.RightSide 0 m s u → state_of v ≡ record (state_of u) { rules = (state_of u).rules ++ (l, s) ∷ [] } → end_of v ≡ end_of u → v.tokens.now ≡ u.tokens.now
-    → Leads (pattern role.RightSide) (within [] (l ∷ [])) m closed v
-right_leads l s m u v h state end tokens = record { by = λ ps. h.by ps [] (l ∷ []) (no_applications role.RightSide (l ∷ []) tt) ∙ (λ i. settled (outcome (sym end i) ps (sym state i) (sym tokens i))) }
+pub right_advances : (l s : Shape) (m u v : Reader) → Builds role.RightSide 0 m s u → state_of v ≡ record (state_of u) { rules = (state_of u).rules ++ (l, s) ∷ [] } → end_of v ≡ end_of u → v.tokens.now ≡ u.tokens.now
+    → Advances (pattern role.RightSide) (within [] (l ∷ [])) m closed v
+right_advances l s m u v h state end tokens = record { by = λ ps. h.by ps [] (l ∷ []) (no_applications role.RightSide (l ∷ []) tt) ∙ (λ i. settled (outcome (sym end i) ps (sym state i) (sym tokens i))) }
 
 pub right_stops : (l : Shape) (m : Reader) (e : SpecError) → Breaks role.RightSide 0 m e → Stops (pattern role.RightSide) (within [] (l ∷ [])) m e
 right_stops l m e h = record { by = λ ne ps. h.by ne ps [] (l ∷ []) (no_applications role.RightSide (l ∷ []) tt) }
 
-pub equal_leads : (l s : Shape) (m u v : Reader) → Builds role.EquationRight 0 m s u → state_of v ≡ record (state_of u) { equations = (state_of u).equations ++ (l, s) ∷ [] } → end_of v ≡ end_of u → v.tokens.now ≡ u.tokens.now
-    → Leads (pattern role.EquationRight) (within [] (l ∷ [])) m closed v
-equal_leads l s m u v h state end tokens = record { by = λ ps. h.by ps [] (l ∷ []) (no_applications role.EquationRight (l ∷ []) tt) ∙ (λ i. settled (outcome (sym end i) ps (sym state i) (sym tokens i))) }
+pub equal_advances : (l s : Shape) (m u v : Reader) → Builds role.EquationRight 0 m s u → state_of v ≡ record (state_of u) { equations = (state_of u).equations ++ (l, s) ∷ [] } → end_of v ≡ end_of u → v.tokens.now ≡ u.tokens.now
+    → Advances (pattern role.EquationRight) (within [] (l ∷ [])) m closed v
+equal_advances l s m u v h state end tokens = record { by = λ ps. h.by ps [] (l ∷ []) (no_applications role.EquationRight (l ∷ []) tt) ∙ (λ i. settled (outcome (sym end i) ps (sym state i) (sym tokens i))) }
 
 pub equal_stops : (l : Shape) (m : Reader) (e : SpecError) → Breaks role.EquationRight 0 m e → Stops (pattern role.EquationRight) (within [] (l ∷ [])) m e
 equal_stops l m e h = record { by = λ ne ps. h.by ne ps [] (l ∷ []) (no_applications role.EquationRight (l ∷ []) tt) }
@@ -150,7 +150,7 @@ module _ (r : Reader) (x : Lexeme) (rest : List Lexeme) (tokens : r.tokens.now �
         ∙ ap (λ xs. Err (refusal_at k (end_of r) xs)) (sym tokens)) ∙ ap Err (sym told);
   }
 
-  word_on : (t : Terminal) (u : Reader) → matches t x ≡ true → IsOther t → use_row t x.text (state_of r) ≡ None → u.tokens.now ≡ rest → end_of u ≡ end_of r → state_of u ≡ adds t x.text (state_of r) → Leads (one t) closed r closed u
+  word_on : (t : Terminal) (u : Reader) → matches t x ≡ true → IsOther t → use_row t x.text (state_of r) ≡ None → u.tokens.now ≡ rest → end_of u ≡ end_of r → state_of u ≡ adds t x.text (state_of r) → Advances (one t) closed r closed u
   word_on t u seen other row left end state = record {
     by = λ ps. ap settled (
         ap (outcome (end_of r) (one t ∷ ps) (state_of r)) tokens
@@ -161,16 +161,16 @@ module _ (r : Reader) (x : Lexeme) (rest : List Lexeme) (tokens : r.tokens.now �
   pub system_stops : (e : SpecError) → matches terminal.Trs x ≡ true → 0 < r.systems → e ≡ error.Fault (refusal (kind.Limit limit.Systems) r) → Stops (one terminal.Trs) closed r e
   system_stops e seen h told = word_fault terminal.Trs (kind.Limit limit.Systems) e seen tt (trs_over x.text (state_of r) h) told
 
-  pub system_leads : (u : Reader) → matches terminal.Trs x ≡ true → r.systems ≡ 0 → u.tokens.now ≡ rest → end_of u ≡ end_of r → state_of u ≡ record (state_of r) { systems = 1 } → Leads (one terminal.Trs) closed r closed u
+  pub system_advances : (u : Reader) → matches terminal.Trs x ≡ true → r.systems ≡ 0 → u.tokens.now ≡ rest → end_of u ≡ end_of r → state_of u ≡ record (state_of r) { systems = 1 } → Advances (one terminal.Trs) closed r closed u
   unfolding adds
-  system_leads u seen none left end state = word_on terminal.Trs u seen tt (trs_new x.text (state_of r) none) left end (state ∙ ap (λ n. record (state_of r) { systems = n }) (sym (ap (λ n. n + 1) none)))
+  system_advances u seen none left end state = word_on terminal.Trs u seen tt (trs_new x.text (state_of r) none) left end (state ∙ ap (λ n. record (state_of r) { systems = n }) (sym (ap (λ n. n + 1) none)))
 
   pub equations_stops : (e : SpecError) → matches terminal.Equations x ≡ true → 0 < r.equation_sections → e ≡ error.Fault (refusal (kind.Limit limit.EquationSections) r) → Stops (one terminal.Equations) closed r e
   equations_stops e seen h told = word_fault terminal.Equations (kind.Limit limit.EquationSections) e seen tt (equations_over x.text (state_of r) h) told
 
-  pub equations_leads : (u : Reader) → matches terminal.Equations x ≡ true → r.equation_sections ≡ 0 → u.tokens.now ≡ rest → end_of u ≡ end_of r → state_of u ≡ record (state_of r) { equation_sections = 1 } → Leads (one terminal.Equations) closed r closed u
+  pub equations_advances : (u : Reader) → matches terminal.Equations x ≡ true → r.equation_sections ≡ 0 → u.tokens.now ≡ rest → end_of u ≡ end_of r → state_of u ≡ record (state_of r) { equation_sections = 1 } → Advances (one terminal.Equations) closed r closed u
   unfolding adds
-  equations_leads u seen none left end state = word_on terminal.Equations u seen tt (equations_new x.text (state_of r) none) left end (state ∙ ap (λ n. record (state_of r) { equation_sections = n }) (sym (ap (λ n. n + 1) none)))
+  equations_advances u seen none left end state = word_on terminal.Equations u seen tt (equations_new x.text (state_of r) none) left end (state ∙ ap (λ n. record (state_of r) { equation_sections = n }) (sym (ap (λ n. n + 1) none)))
 
 -- what is seen is the first token
 pub seen_first : (t : Terminal) (xs : List Lexeme) → sees t xs ≡ true → (x : Lexeme) × (rest : List Lexeme) × (xs ≡ x ∷ rest) × (matches t x ≡ true)
@@ -191,7 +191,7 @@ module _ (r m start : Reader) (same : SameBut r start) (tokens_same : start.toke
   cleared : (ps : List Part) → from closed ps r ≡ from closed ps start
   cleared ps = λ i. settled (outcome (sym same.end i) ps (sym same.state i) (sym tokens_same i))
 
-  from_start : (p : Part) (q : Open) (u : Reader) → Leads p closed start q u → Leads p closed r q u
+  from_start : (p : Part) (q : Open) (u : Reader) → Advances p closed start q u → Advances p closed r q u
   from_start p q u h = record { by = λ ps. cleared (p ∷ ps) ∙ h.by ps }
 
   stops_start : (p : Part) (e : SpecError) → Stops p closed start e → Stops p closed r e
@@ -204,44 +204,44 @@ module _ (r m start : Reader) (same : SameBut r start) (tokens_same : start.toke
   equation_left e h = stops_start equation e (then_stops (pattern role.EquationLeft) (one terminal.Equals then pattern role.EquationRight) closed start e (equated_stops start unbound e h))
 
   module _ (left : Pattern) (l : IsSide role.LeftSide start left m) where
-    left_read : Leads (pattern role.LeftSide) closed start (within [] (shape_of left ∷ [])) m
-    left_read = left_leads start unbound (shape_of left) m l.builds
+    left_read : Advances (pattern role.LeftSide) closed start (within [] (shape_of left ∷ [])) m
+    left_read = left_advances start unbound (shape_of left) m l.builds
 
     pub rule_arrow : (e : SpecError) → Missed terminal.Arrow m e → Stops rule closed r e
     rule_arrow e h = stops_start rule e (later_stops (pattern role.LeftSide) (one terminal.Arrow then pattern role.RightSide) closed (within [] (shape_of left ∷ [])) start m e left_read
         (then_stops (one terminal.Arrow) (pattern role.RightSide) (within [] (shape_of left ∷ [])) m e (mark_stops terminal.Arrow (within [] (shape_of left ∷ [])) m e (side_calm (shape_of left)) h)))
 
     module _ (v : Reader) (k : Took terminal.Arrow m v) where
-      arrow_read : Leads (one terminal.Arrow) (within [] (shape_of left ∷ [])) m (within [] (shape_of left ∷ [])) v
-      arrow_read = mark_leads terminal.Arrow (within [] (shape_of left ∷ [])) m v tt (side_calm (shape_of left)) k
+      arrow_read : Advances (one terminal.Arrow) (within [] (shape_of left ∷ [])) m (within [] (shape_of left ∷ [])) v
+      arrow_read = mark_advances terminal.Arrow (within [] (shape_of left ∷ [])) m v tt (side_calm (shape_of left)) k
 
       pub rule_right : (e : SpecError) → Breaks role.RightSide 0 v e → Stops rule closed r e
       rule_right e h = stops_start rule e (later_stops (pattern role.LeftSide) (one terminal.Arrow then pattern role.RightSide) closed (within [] (shape_of left ∷ [])) start m e left_read
           (later_stops (one terminal.Arrow) (pattern role.RightSide) (within [] (shape_of left ∷ [])) (within [] (shape_of left ∷ [])) m v e arrow_read (right_stops (shape_of left) v e h)))
 
-      pub rule_whole : (right : Pattern) (u w : Reader) → IsSide role.RightSide v right u → state_of w ≡ record (state_of u) { rules = (state_of u).rules ++ (shape_of left, shape_of right) ∷ [] } → end_of w ≡ end_of u → w.tokens.now ≡ u.tokens.now → Leads rule closed r closed w
-      rule_whole right u w h state end tokens = from_start rule closed w (then_leads (pattern role.LeftSide) (one terminal.Arrow then pattern role.RightSide) closed (within [] (shape_of left ∷ [])) closed start m w left_read
-          (then_leads (one terminal.Arrow) (pattern role.RightSide) (within [] (shape_of left ∷ [])) (within [] (shape_of left ∷ [])) closed m v w arrow_read (right_leads (shape_of left) (shape_of right) v u w h.builds state end tokens)))
+      pub rule_whole : (right : Pattern) (u w : Reader) → IsSide role.RightSide v right u → state_of w ≡ record (state_of u) { rules = (state_of u).rules ++ (shape_of left, shape_of right) ∷ [] } → end_of w ≡ end_of u → w.tokens.now ≡ u.tokens.now → Advances rule closed r closed w
+      rule_whole right u w h state end tokens = from_start rule closed w (then_advances (pattern role.LeftSide) (one terminal.Arrow then pattern role.RightSide) closed (within [] (shape_of left ∷ [])) closed start m w left_read
+          (then_advances (one terminal.Arrow) (pattern role.RightSide) (within [] (shape_of left ∷ [])) (within [] (shape_of left ∷ [])) closed m v w arrow_read (right_advances (shape_of left) (shape_of right) v u w h.builds state end tokens)))
 
   module _ (left : Pattern) (l : IsSide role.EquationLeft start left m) where
-    equated_read : Leads (pattern role.EquationLeft) closed start (within [] (shape_of left ∷ [])) m
-    equated_read = equated_leads start unbound (shape_of left) m l.builds
+    equated_read : Advances (pattern role.EquationLeft) closed start (within [] (shape_of left ∷ [])) m
+    equated_read = equated_advances start unbound (shape_of left) m l.builds
 
     pub equation_mark : (e : SpecError) → Missed terminal.Equals m e → Stops equation closed r e
     equation_mark e h = stops_start equation e (later_stops (pattern role.EquationLeft) (one terminal.Equals then pattern role.EquationRight) closed (within [] (shape_of left ∷ [])) start m e equated_read
         (then_stops (one terminal.Equals) (pattern role.EquationRight) (within [] (shape_of left ∷ [])) m e (mark_stops terminal.Equals (within [] (shape_of left ∷ [])) m e (side_calm (shape_of left)) h)))
 
     module _ (v : Reader) (k : Took terminal.Equals m v) where
-      equals_read : Leads (one terminal.Equals) (within [] (shape_of left ∷ [])) m (within [] (shape_of left ∷ [])) v
-      equals_read = mark_leads terminal.Equals (within [] (shape_of left ∷ [])) m v tt (side_calm (shape_of left)) k
+      equals_read : Advances (one terminal.Equals) (within [] (shape_of left ∷ [])) m (within [] (shape_of left ∷ [])) v
+      equals_read = mark_advances terminal.Equals (within [] (shape_of left ∷ [])) m v tt (side_calm (shape_of left)) k
 
       pub equation_right : (e : SpecError) → Breaks role.EquationRight 0 v e → Stops equation closed r e
       equation_right e h = stops_start equation e (later_stops (pattern role.EquationLeft) (one terminal.Equals then pattern role.EquationRight) closed (within [] (shape_of left ∷ [])) start m e equated_read
           (later_stops (one terminal.Equals) (pattern role.EquationRight) (within [] (shape_of left ∷ [])) (within [] (shape_of left ∷ [])) m v e equals_read (equal_stops (shape_of left) v e h)))
 
-      pub equation_whole : (right : Pattern) (u w : Reader) → IsSide role.EquationRight v right u → state_of w ≡ record (state_of u) { equations = (state_of u).equations ++ (shape_of left, shape_of right) ∷ [] } → end_of w ≡ end_of u → w.tokens.now ≡ u.tokens.now → Leads equation closed r closed w
-      equation_whole right u w h state end tokens = from_start equation closed w (then_leads (pattern role.EquationLeft) (one terminal.Equals then pattern role.EquationRight) closed (within [] (shape_of left ∷ [])) closed start m w equated_read
-          (then_leads (one terminal.Equals) (pattern role.EquationRight) (within [] (shape_of left ∷ [])) (within [] (shape_of left ∷ [])) closed m v w equals_read (equal_leads (shape_of left) (shape_of right) v u w h.builds state end tokens)))
+      pub equation_whole : (right : Pattern) (u w : Reader) → IsSide role.EquationRight v right u → state_of w ≡ record (state_of u) { equations = (state_of u).equations ++ (shape_of left, shape_of right) ∷ [] } → end_of w ≡ end_of u → w.tokens.now ≡ u.tokens.now → Advances equation closed r closed w
+      equation_whole right u w h state end tokens = from_start equation closed w (then_advances (pattern role.EquationLeft) (one terminal.Equals then pattern role.EquationRight) closed (within [] (shape_of left ∷ [])) closed start m w equated_read
+          (then_advances (one terminal.Equals) (pattern role.EquationRight) (within [] (shape_of left ∷ [])) (within [] (shape_of left ∷ [])) closed m v w equals_read (equal_advances (shape_of left) (shape_of right) v u w h.builds state end tokens)))
 
 -- ---- what is added
 

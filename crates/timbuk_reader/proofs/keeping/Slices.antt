@@ -1,4 +1,4 @@
--- The tokens that are told are slices of the bytes, in order.
+-- The tokens that are answered are slices of the bytes, in order.
 use Rattle.std.proofs.Common.{ℕ, ◌+◌, List, [], ◌∷◌, length, map}
 use Rattle.std.specs.Prelude.{All}
 use Rattle.std.proofs.lemmas.List.Elements.{All-nil, All-cons, All-head, All-tail}

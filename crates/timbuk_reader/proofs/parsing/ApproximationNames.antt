@@ -26,7 +26,7 @@ use Rattle.timbuk_reader.specs.Reads.{Stops, IsCalm, Stands}
 use Rattle.timbuk_reader.specs.declared.meaning.Meaning.{Meaning as Told}
 use Rattle.timbuk_reader.specs.declared.meaning.Meaning.TheVariants as told
 use Rattle.timbuk_reader.specs.Meanings.{meant_by}
-use Rattle.timbuk_reader.specs.Patterns.{Advanced, LeadsToParen}
+use Rattle.timbuk_reader.specs.Patterns.{Advanced, AdvancesToParen}
 use Rattle.timbuk_reader.specs.ApproximationReads.{IsBinding, IsLeafRole, IsLeaf, HasLeaf, leaf_meaning, has_room, formed, headed_by, headed, ReadsName, StopsName, ReadsLeaf, StopsLeaf}
 use Rattle.timbuk_reader.specs.declared.approximation.Form.{Form}
 use Rattle.timbuk_reader.specs.declared.approximation.StartedEntry.{StartedEntry}
@@ -209,7 +209,7 @@ module _ (p : Role) (place_is : IsLeafRole p) (own : List ℕ) (r u : Reader) (l
   leaf_reads k alone = record { by = λ o ready there ps. ap settled (passes o ps ready.last there k) ∙ alone_by p l ps (end_of u) (declared o u) u.tokens.now alone }
 
   -- a `(` stands behind it
-  pub leaf_stops : (e : SpecError) → LeadsToParen kind.Expected r e u → StopsLeaf p own r e
+  pub leaf_stops : (e : SpecError) → AdvancesToParen kind.Expected r e u → StopsLeaf p own r e
   leaf_stops e k = record {
     by = λ o ready there. record {
       by = λ ne ps.
@@ -242,7 +242,7 @@ module _ (text : Text) (r : Reader) (stands : Stands (terminal.Named role.EntryT
     target_reads k alone = record { by = λ o ready ps. ap settled (target_passes o ps ready.last k) ∙ alone_by role.EntryTarget (leaves.State q) ps (end_of u) (declared o u) u.tokens.now alone }
 
     -- a `(` stands behind it
-    pub target_stops : (e : SpecError) → LeadsToParen kind.Expected r e u → StopsName role.EntryTarget r e
+    pub target_stops : (e : SpecError) → AdvancesToParen kind.Expected r e u → StopsName role.EntryTarget r e
     target_stops e k = record {
       by = λ o ready. record {
         by = λ ne ps.

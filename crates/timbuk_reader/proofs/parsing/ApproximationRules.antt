@@ -18,12 +18,12 @@ use Rattle.spec_text.specs.Declarations.{Declared, Application, any, constant, f
 use Rattle.spec_text.specs.Reading.{outcome}
 use Rattle.timbuk_reader.specs.View.{closed, declared, inside, state_of, end_of, from, as_error, refusal}
 use Rattle.spec_text.specs.Reading.{settled, sees}
-use Rattle.timbuk_reader.specs.Reads.{Leads, Stops, Reads, IsCalm, Took, Missed}
+use Rattle.timbuk_reader.specs.Reads.{Advances, Stops, Reads, IsCalm, Took, Missed}
 use Rattle.timbuk_reader.specs.Patterns.{within, application, IsSpot, Builds, Breaks, SameBut, LacksArguments, LacksArgument, too_few, no_comma, LacksEnd, too_many, no_end}
 use Rattle.timbuk_reader.specs.AutomatonReads.{IsReady, SameTokens}
 use Rattle.timbuk_reader.specs.ApproximationReads.{formed, headed_by, headed, arguing, argued, leaf_meaning, leaf_shape, with_leaf, with_own, entry_of, ReadsName, StopsName, ReadsLeaf, StopsLeaf, OnlyTokens, OnlyEntries, SameHead, AddsArgument, HasArguments}
-use Rattle.timbuk_reader.proofs.parsing.Parts.{Head, alike, both_alike, then_head, maybe_skip, many_take, many_skip, then_leads, then_stops, later_stops}
-use Rattle.timbuk_reader.proofs.parsing.Tokens.{mark_leads, mark_stops}
+use Rattle.timbuk_reader.proofs.parsing.Parts.{Head, alike, both_alike, then_head, maybe_skip, many_take, many_skip, then_advances, then_stops, later_stops}
+use Rattle.timbuk_reader.proofs.parsing.Tokens.{mark_advances, mark_stops}
 use Rattle.spec_text.specs.lemmas.LastToken.{after, constant_whole, read_after}
 use Rattle.timbuk_reader.proofs.parsing.Arguments.{calm_ready, took_run, ready_count, more_of, constant_applied, function_bare, arguments_open, argument_next, argument_lacks, argument_exceeds, argument_unmarked, arguments_close}
 
@@ -37,8 +37,8 @@ module _ (r : Reader) (unbound : r.bound ≡ []) where
   spot : IsSpot role.EntryWhole 0 [] []
   spot = record { depth_is = refl; room = tt; first = tt }
 
-  pub whole_leads : (u : Reader) (s : Shape) → Builds role.EntryWhole 0 r s u → Leads (pattern role.EntryWhole) closed r (within [] (s ∷ [])) u
-  whole_leads u s h = record { by = λ ps. start (pattern role.EntryWhole ∷ ps) ∙ h.by ps [] [] spot }
+  pub whole_advances : (u : Reader) (s : Shape) → Builds role.EntryWhole 0 r s u → Advances (pattern role.EntryWhole) closed r (within [] (s ∷ [])) u
+  whole_advances u s h = record { by = λ ps. start (pattern role.EntryWhole ∷ ps) ∙ h.by ps [] [] spot }
 
   pub whole_stops : (e : SpecError) → Breaks role.EntryWhole 0 r e → Stops (pattern role.EntryWhole) closed r e
   whole_stops e h = record { by = λ ne ps. ap as_error (start (pattern role.EntryWhole ∷ ps)) ∙ h.by ne ps [] [] spot }
@@ -52,9 +52,9 @@ at_declared whole m u (leaves.Variable v) e b = λ i. inside (within [] (whole �
 at_declared whole m u (leaves.State q) e b = λ i. inside (within [] (whole ∷ leaf_shape (leaves.State q) ∷ [])) (sym b i) (sym e i)
 
 -- the form of a state
-pub at_leads : (r m u : Reader) (form : Form) (l : Leaf) → form.at ≡ leaf_shape l → ReadsLeaf role.EntryAt [] r l m → SameBut m u → u.bound ≡ with_leaf m.bound l → u.tokens.now ≡ m.tokens.now
-    → Leads (name role.EntryAt) (within [] (form.whole ∷ [])) r (formed form) u
-at_leads r m u form l at h same b t = record {
+pub at_advances : (r m u : Reader) (form : Form) (l : Leaf) → form.at ≡ leaf_shape l → ReadsLeaf role.EntryAt [] r l m → SameBut m u → u.bound ≡ with_leaf m.bound l → u.tokens.now ≡ m.tokens.now
+    → Advances (name role.EntryAt) (within [] (form.whole ∷ [])) r (formed form) u
+at_advances r m u form l at h same b t = record {
   by = λ ps.
       h.by (within [] (form.whole ∷ [])) (calm_ready (within [] (form.whole ∷ [])) r refl refl) (record { binds = refl; own_is = refl }) ps
       ∙ (λ i. settled (outcome (sym same.end i) ps ((at_declared form.whole m u l same.state b ∙ ap (λ s. declared (within [] (form.whole ∷ s ∷ [])) u) (sym at)) i) (sym t i)));
@@ -100,8 +100,8 @@ module _ (e : StartedEntry) (r : Reader) (less : length e.args < e.arity) (unclo
   same_entry : (u : Reader) (l : Leaf) (f : StartedEntry) → AddsArgument u.bound l e f → with_argument u l ≡ f
   same_entry u l f h = λ i. record { form = sym h.head.form i; sym = sym h.head.sym i; arity = sym h.head.arity i; args = sym h.args i; own = sym h.own i }
 
-  pub argument_leads : (u : Reader) (l : Leaf) (f : StartedEntry) → ReadsLeaf role.EntryArgument e.own r l u → AddsArgument u.bound l e f → Leads argument (arguing e) r (arguing f) u
-  argument_leads u l f h k = record {
+  pub argument_advances : (u : Reader) (l : Leaf) (f : StartedEntry) → ReadsLeaf role.EntryArgument e.own r l u → AddsArgument u.bound l e f → Advances argument (arguing e) r (arguing f) u
+  argument_advances u l f h k = record {
     by = λ ps.
         h.by (arguing e) ready (record { binds = refl; own_is = refl }) ps
         ∙ ap (λ d. settled (outcome (end_of u) ps d u.tokens.now)) (argument_declared u l ∙ ap (λ z. declared (arguing z) u) (same_entry u l f k));
@@ -136,8 +136,8 @@ module _ (e : StartedEntry) (bare : IsBare e) where
           ap (λ z. as_error (settled z)) (constant_applied (arguments argument ∷ ps) (end_of r) (declared (headed e) r) r.tokens.now (none_by e.arity e r bare none).0 h.seen) ∙ ap Err (sym h.told);
     }
 
-    pub none_leads : sees terminal.OpenParen r.tokens.now ≡ false → Leads (arguments argument) (headed e) r (argued e) r
-    none_leads unseen = record {
+    pub none_advances : sees terminal.OpenParen r.tokens.now ≡ false → Advances (arguments argument) (headed e) r (argued e) r
+    none_advances unseen = record {
       by = λ ps.
           let k = none_by e.arity e r bare none in
           let d = declared (headed e) r in
@@ -166,7 +166,7 @@ module _ (e : StartedEntry) (bare : IsBare e) where
     pub first_stops : (m : Reader) (x : SpecError) → Took terminal.OpenParen r m → Stops argument (arguing e) m x → Stops (arguments argument) (headed e) r x
     first_stops m x k h = record { by = λ ne ps. ap as_error (opened m ps k) ∙ h.by ne (more_of argument ∷ ps) }
 
-    pub first_argues : (m u : Reader) (f : StartedEntry) → Took terminal.OpenParen r m → Leads argument (arguing e) m (arguing f) u → Argues r e f u
+    pub first_argues : (m u : Reader) (f : StartedEntry) → Took terminal.OpenParen r m → Advances argument (arguing e) m (arguing f) u → Argues r e f u
     first_argues m u f k h = record { by = λ ps. opened m ps k ∙ h.by (more_of argument ∷ ps) }
 
 -- further arguments
@@ -190,7 +190,7 @@ module _ (r m : Reader) (e f : StartedEntry) (h : Argues r e f m) where
     pub next_stops : (v : Reader) (x : SpecError) → Took terminal.Comma m v → Stops argument (arguing f) v x → Stops (arguments argument) (headed e) r x
     next_stops v x k s = record { by = λ ne ps. ap as_error (between v ps k) ∙ s.by ne (many (one terminal.Comma then argument) ∷ one terminal.CloseParen ∷ ps) }
 
-    pub next_argues : (v u : Reader) (g : StartedEntry) → Took terminal.Comma m v → Leads argument (arguing f) v (arguing g) u → Argues r e g u
+    pub next_argues : (v u : Reader) (g : StartedEntry) → Took terminal.Comma m v → Advances argument (arguing f) v (arguing g) u → Argues r e g u
     next_argues v u g k l = record {
       by = λ ps.
           let qs = many (one terminal.Comma then argument) ∷ one terminal.CloseParen ∷ ps in
@@ -212,8 +212,8 @@ module _ (r m : Reader) (e f : StartedEntry) (h : Argues r e f m) where
           ap as_error (h.by ps) ∙ ap (λ z. as_error (settled z)) (argument_unmarked argument ps (end_of m) (declared (arguing f) m) (lacking f) [] refl refl m.tokens.now k.unseen unseen) ∙ ap Err (sym k.told);
     }
 
-    pub all_lead : (u : Reader) → Took terminal.CloseParen m u → Leads (arguments argument) (headed e) r (argued f) u
-    all_lead u k = record {
+    pub all_advances : (u : Reader) → Took terminal.CloseParen m u → Advances (arguments argument) (headed e) r (argued f) u
+    all_advances u k = record {
       by = λ ps.
           h.by ps ∙ ap settled (took_run terminal.CloseParen m u (arguing f) (more_of argument ∷ ps) k
           ∙ arguments_close argument ps (end_of u) (declared (arguing f) u) (lacking f) [] refl refl k.token u.tokens.now all k.matched);
@@ -223,12 +223,12 @@ module _ (r m : Reader) (e f : StartedEntry) (h : Argues r e f m) where
 
 pub none_reads : {X : Type 0} (e : StartedEntry) → IsBare e → (r : Reader) → e.arity ≡ 0 → (result : Result X SpecError) → MatchResult result (λ _. sees terminal.OpenParen r.tokens.now ≡ false) (HasArguments r)
     → Reads (arguments argument) (headed e) r result (argued e) r
-none_reads e bare r none (Ok x) h = none_leads e bare r none h
+none_reads e bare r none (Ok x) h = none_advances e bare r none h
 none_reads e bare r none (Err x) h = none_stops e bare r none x h
 
 pub last_reads : {X : Type 0} (r m u : Reader) (e f : StartedEntry) → Argues r e f m → length f.args ≡ f.arity → (result : Result X SpecError) → MatchResult result (λ _. Took terminal.CloseParen m u) (LacksEnd m)
     → Reads (arguments argument) (headed e) r result (argued f) u
-last_reads r m u e f h full (Ok x) k = all_lead r m e f h full u k
+last_reads r m u e f h full (Ok x) k = all_advances r m e f h full u k
 last_reads r m u e f h full (Err x) k = lacks_last r m e f h full x k
 
 -- ---- what stays
@@ -257,9 +257,9 @@ target_declared e q u v added only =
     ∙ sym (λ i. inside (formed e.form) (only.bound i) (only.state i))
 
 -- the target of an entry, which was added
-pub target_leads : (e : StartedEntry) (form : Form) (q : ℕ) (r u v : Reader) → e.form ≡ form → ReadsName role.EntryTarget r (a_state q) u → v.entries ≡ u.entries ++ entry_of e q ∷ [] → OnlyEntries u v → SameTokens u v
-    → Leads (name role.EntryTarget) (argued e) r (formed form) v
-target_leads e form q r u v same h added only tokens = record {
+pub target_advances : (e : StartedEntry) (form : Form) (q : ℕ) (r u v : Reader) → e.form ≡ form → ReadsName role.EntryTarget r (a_state q) u → v.entries ≡ u.entries ++ entry_of e q ∷ [] → OnlyEntries u v → SameTokens u v
+    → Advances (name role.EntryTarget) (argued e) r (formed form) v
+target_advances e form q r u v same h added only tokens = record {
   by = λ ps.
       h.by (argued e) (calm_ready (argued e) r refl refl) ps
       ∙ (λ i. settled (outcome (sym tokens.end i) ps ((target_declared e q u v added only ∙ ap (λ f. declared (formed f) v) same) i) (sym tokens.tokens i)));
@@ -275,11 +275,11 @@ abbrev behind_head : Part
 behind_head = arguments argument then behind_arguments
 
 -- an entry by its parts
-module _ (form : Form) (r m : Reader) (e : StartedEntry) (head : Leads (name role.EntryHead) (formed form) r (headed e) m) where
+module _ (form : Form) (r m : Reader) (e : StartedEntry) (head : Advances (name role.EntryHead) (formed form) r (headed e) m) where
   pub entry_stops_in_arguments : (x : SpecError) → Stops (arguments argument) (headed e) m x → Stops entry (formed form) r x
   entry_stops_in_arguments x h = later_stops (name role.EntryHead) behind_head (formed form) (headed e) r m x head (then_stops (arguments argument) behind_arguments (headed e) m x h)
 
-  module _ (u : Reader) (f : StartedEntry) (args : Leads (arguments argument) (headed e) m (argued f) u) where
+  module _ (u : Reader) (f : StartedEntry) (args : Advances (arguments argument) (headed e) m (argued f) u) where
     pub entry_stops_at_arrow : (x : SpecError) → Missed terminal.Arrow u x → Stops entry (formed form) r x
     entry_stops_at_arrow x h =
         later_stops (name role.EntryHead) behind_head (formed form) (headed e) r m x head
@@ -291,13 +291,13 @@ module _ (form : Form) (r m : Reader) (e : StartedEntry) (head : Leads (name rol
       entry_stops_at_target x h =
           later_stops (name role.EntryHead) behind_head (formed form) (headed e) r m x head
           (later_stops (arguments argument) behind_arguments (headed e) (argued f) m u x args
-          (later_stops (one terminal.Arrow) (name role.EntryTarget) (argued f) (argued f) u v x (mark_leads terminal.Arrow (argued f) u v tt (argued_calm f) arrow) (target_fails f v x h)))
+          (later_stops (one terminal.Arrow) (name role.EntryTarget) (argued f) (argued f) u v x (mark_advances terminal.Arrow (argued f) u v tt (argued_calm f) arrow) (target_fails f v x h)))
 
-      pub entry_leads : (w : Reader) → Leads (name role.EntryTarget) (argued f) v (formed form) w → Leads entry (formed form) r (formed form) w
-      entry_leads w h =
-          then_leads (name role.EntryHead) behind_head (formed form) (headed e) (formed form) r m w head
-          (then_leads (arguments argument) behind_arguments (headed e) (argued f) (formed form) m u w args
-          (then_leads (one terminal.Arrow) (name role.EntryTarget) (argued f) (argued f) (formed form) u v w (mark_leads terminal.Arrow (argued f) u v tt (argued_calm f) arrow) h))
+      pub entry_advances : (w : Reader) → Advances (name role.EntryTarget) (argued f) v (formed form) w → Advances entry (formed form) r (formed form) w
+      entry_advances w h =
+          then_advances (name role.EntryHead) behind_head (formed form) (headed e) (formed form) r m w head
+          (then_advances (arguments argument) behind_arguments (headed e) (argued f) (formed form) m u w args
+          (then_advances (one terminal.Arrow) (name role.EntryTarget) (argued f) (argued f) (formed form) u v w (mark_advances terminal.Arrow (argued f) u v tt (argued_calm f) arrow) h))
 
 pub entry_stops_at_head : (form : Form) (r : Reader) (x : SpecError) → Stops (name role.EntryHead) (formed form) r x → Stops entry (formed form) r x
 entry_stops_at_head form r x h = then_stops (name role.EntryHead) behind_head (formed form) r x h
@@ -314,7 +314,7 @@ entry_begins = then_head (terminal.Named role.EntryHead) behind_head
 pub record Enters (form : Form) (r m : Reader) : Type 0 where
   pub by : (ps : List Part) → from (formed form) (some_entries ∷ ps) r ≡ from (formed form) (many entry ∷ ps) m
 
-pub enters_first : (form : Form) (r m : Reader) → Leads entry (formed form) r (formed form) m → Enters form r m
+pub enters_first : (form : Form) (r m : Reader) → Advances entry (formed form) r (formed form) m → Enters form r m
 enters_first form r m h = record {
   by = λ ps.
       ap settled (alike (some_entries ∷ ps) (entry ∷ many entry ∷ ps) (end_of r) (declared (formed form) r) r.tokens.now (both_alike entry (many entry) ps)) ∙ h.by (many entry ∷ ps);
@@ -325,14 +325,14 @@ module _ (form : Form) (r m : Reader) (h : Enters form r m) where
     further : (ps : List Part) → from (formed form) (some_entries ∷ ps) r ≡ from (formed form) (entry ∷ many entry ∷ ps) m
     further ps = h.by ps ∙ ap settled (many_take entry (terminal.Named role.EntryHead) entry_begins (end_of m) (declared (formed form) m) ps m.tokens.now seen)
 
-    pub enters_next : (u : Reader) → Leads entry (formed form) m (formed form) u → Enters form r u
+    pub enters_next : (u : Reader) → Advances entry (formed form) m (formed form) u → Enters form r u
     enters_next u l = record { by = λ ps. further ps ∙ l.by (many entry ∷ ps) }
 
     pub next_entry_stops : (x : SpecError) → Stops entry (formed form) m x → Stops some_entries (formed form) r x
     next_entry_stops x s = record { by = λ ne ps. ap as_error (further ps) ∙ s.by ne (many entry ∷ ps) }
 
-  pub entries_lead : sees (terminal.Named role.EntryHead) m.tokens.now ≡ false → Leads some_entries (formed form) r (formed form) m
-  entries_lead unseen = record { by = λ ps. h.by ps ∙ ap settled (many_skip entry (terminal.Named role.EntryHead) entry_begins (end_of m) (declared (formed form) m) ps m.tokens.now unseen) }
+  pub entries_advances : sees (terminal.Named role.EntryHead) m.tokens.now ≡ false → Advances some_entries (formed form) r (formed form) m
+  entries_advances unseen = record { by = λ ps. h.by ps ∙ ap settled (many_skip entry (terminal.Named role.EntryHead) entry_begins (end_of m) (declared (formed form) m) ps m.tokens.now unseen) }
 
 pub only_entries_then : (r m u : Reader) → OnlyEntries r m → OnlyEntries m u → OnlyEntries r u
 only_entries_then r m u h k = record { state = k.state ∙ (λ i. record (h.state i) { entries = u.entries }); bound = k.bound ∙ h.bound }

@@ -21,15 +21,15 @@ use Rattle.spec_text.specs.Rows.{row, expected, passed, misnamed}
 use Rattle.spec_text.specs.Reading.{outcome}
 use Rattle.timbuk_reader.specs.View.{Open, closed, declared, state_of, end_of, from, as_error, refusal, refusal_at}
 use Rattle.spec_text.specs.Reading.{settled, sees}
-use Rattle.timbuk_reader.specs.Reads.{Leads, Stops, Reads, Took, Takes, Missed}
+use Rattle.timbuk_reader.specs.Reads.{Advances, Stops, Reads, Took, Takes, Missed}
 use Rattle.timbuk_reader.specs.Patterns.{within, Builds, Breaks, SameBut}
 use Rattle.timbuk_reader.specs.ApproximationReads.{formed, form_entries, IsForm, IsPart}
 use Rattle.timbuk_reader.proofs.parsing.Parts.{one_front, then_stops, later_stops, then_reads}
-use Rattle.timbuk_reader.proofs.parsing.Tokens.{use_row, not_closed, row_expected, row_other, step_on, step_fault, calm_arity, calm_quiet, closed_calm, mark_leads, mark_stops}
+use Rattle.timbuk_reader.proofs.parsing.Tokens.{use_row, not_closed, row_expected, row_other, step_on, step_fault, calm_arity, calm_quiet, closed_calm, mark_advances, mark_stops}
 use Rattle.timbuk_reader.proofs.parsing.Arguments.{took_run}
 use Rattle.std.proofs.Math.Bool.{and-false}
 use Rattle.timbuk_reader.proofs.parsing.ApproximationNames.{formed_calm}
-use Rattle.timbuk_reader.proofs.parsing.ApproximationRules.{whole_leads, whole_stops, whole_calm}
+use Rattle.timbuk_reader.proofs.parsing.ApproximationRules.{whole_advances, whole_stops, whole_calm}
 use Rattle.timbuk_reader.proofs.keeping.Approximation.{part_kept, form_kept}
 
 -- ---- the end of the entries
@@ -42,8 +42,8 @@ close_adds : (form : Form) (u : Reader) (text : Text) → adds terminal.CloseEnt
 unfolding adds
 close_adds form u text = refl
 
-close_leads : (form : Form) (m u : Reader) → Took terminal.CloseEntries m u → Leads (one terminal.CloseEntries) (formed form) m closed u
-close_leads form m u k = record {
+close_advances : (form : Form) (m u : Reader) → Took terminal.CloseEntries m u → Advances (one terminal.CloseEntries) (formed form) m closed u
+close_advances form m u k = record {
   by = λ ps.
       let d = declared (formed form) u in
       ap settled (took_run terminal.CloseEntries m u (formed form) (one terminal.CloseEntries ∷ ps) k
@@ -53,7 +53,7 @@ close_leads form m u k = record {
 }
 
 close_reads : {X : Type 0} (form : Form) (m u : Reader) (result : Result X SpecError) → Takes terminal.CloseEntries m result u → Reads (one terminal.CloseEntries) (formed form) m result closed u
-close_reads form m u (Ok x) k = close_leads form m u k
+close_reads form m u (Ok x) k = close_advances form m u k
 close_reads form m u (Err e) k = mark_stops terminal.CloseEntries (formed form) m e (formed_calm form) k
 
 -- ---- what follows a form
@@ -69,8 +69,8 @@ module _ (form : Form) (r : Reader) where
   entries_stop_at_arrow e h = then_stops (one terminal.Arrow) behind_arrow (formed form) r e (mark_stops terminal.Arrow (formed form) r e (formed_calm form) h)
 
   module _ (m : Reader) (arrow : Took terminal.Arrow r m) where
-    past_arrow : Leads (one terminal.Arrow) (formed form) r (formed form) m
-    past_arrow = mark_leads terminal.Arrow (formed form) r m tt (formed_calm form) arrow
+    past_arrow : Advances (one terminal.Arrow) (formed form) r (formed form) m
+    past_arrow = mark_advances terminal.Arrow (formed form) r m tt (formed_calm form) arrow
 
     pub entries_stop_at_bracket : (e : SpecError) → Missed terminal.OpenBracket m e → Stops form_entries (formed form) r e
     entries_stop_at_bracket e h =
@@ -78,8 +78,8 @@ module _ (form : Form) (r : Reader) where
         (then_stops (one terminal.OpenBracket) behind_open (formed form) m e (mark_stops terminal.OpenBracket (formed form) m e (formed_calm form) h))
 
     module _ (u : Reader) (bracket : Took terminal.OpenBracket m u) where
-      past_bracket : Leads (one terminal.OpenBracket) (formed form) m (formed form) u
-      past_bracket = mark_leads terminal.OpenBracket (formed form) m u tt (formed_calm form) bracket
+      past_bracket : Advances (one terminal.OpenBracket) (formed form) m (formed form) u
+      past_bracket = mark_advances terminal.OpenBracket (formed form) m u tt (formed_calm form) bracket
 
       pub entries_stop : (e : SpecError) → Stops (some entry) (formed form) u e → Stops form_entries (formed form) r e
       entries_stop e h =
@@ -87,7 +87,7 @@ module _ (form : Form) (r : Reader) where
           (later_stops (one terminal.OpenBracket) behind_open (formed form) (formed form) m u e past_bracket
           (then_stops (some entry) (one terminal.CloseEntries) (formed form) u e h))
 
-      pub entries_read : {X : Type 0} (v w : Reader) (result : Result X SpecError) → Leads (some entry) (formed form) u (formed form) v → Takes terminal.CloseEntries v result w → Reads form_entries (formed form) r result closed w
+      pub entries_read : {X : Type 0} (v w : Reader) (result : Result X SpecError) → Advances (some entry) (formed form) u (formed form) v → Takes terminal.CloseEntries v result w → Reads form_entries (formed form) r result closed w
       entries_read v w result h k =
           then_reads (one terminal.Arrow) behind_arrow (formed form) (formed form) closed r m w result past_arrow
           (then_reads (one terminal.OpenBracket) behind_open (formed form) (formed form) closed m u w result past_bracket
@@ -96,8 +96,8 @@ module _ (form : Form) (r : Reader) where
 -- ---- an approximation rule
 
 -- the bound variables of no declaration mean nothing
-pub unbound_leads : (p : Part) (r m u : Reader) → Leads p closed r closed m → SameBut m u → u.tokens.now ≡ m.tokens.now → Leads p closed r closed u
-unbound_leads p r m u h same tokens = record { by = λ ps. h.by ps ∙ (λ i. settled (outcome (sym same.end i) ps (sym same.state i) (sym tokens i))) }
+pub unbound_advances : (p : Part) (r m u : Reader) → Advances p closed r closed m → SameBut m u → u.tokens.now ≡ m.tokens.now → Advances p closed r closed u
+unbound_advances p r m u h same tokens = record { by = λ ps. h.by ps ∙ (λ i. settled (outcome (sym same.end i) ps (sym same.state i) (sym tokens i))) }
 
 pub rule_stops_at_open : (r : Reader) (e : SpecError) → Stops (one terminal.OpenBracket) closed r e → Stops approximation_rule closed r e
 rule_stops_at_open r e h = then_stops (one terminal.OpenBracket) (pattern role.EntryWhole then one terminal.Arrow then name role.EntryAt then one terminal.CloseBracket then form_entries) closed r e h
@@ -114,7 +114,7 @@ behind_whole = one terminal.Arrow then behind_whole_arrow
 abbrev behind_bracket : Part
 behind_bracket = pattern role.EntryWhole then behind_whole
 
-module _ (r m : Reader) (bracket : Leads (one terminal.OpenBracket) closed r closed m) (unbound : m.bound ≡ []) where
+module _ (r m : Reader) (bracket : Advances (one terminal.OpenBracket) closed r closed m) (unbound : m.bound ≡ []) where
   pub rule_stops_in_whole : (e : SpecError) → Breaks role.EntryWhole 0 m e → Stops approximation_rule closed r e
   rule_stops_in_whole e h =
       later_stops (one terminal.OpenBracket) behind_bracket closed closed r m e bracket
@@ -124,8 +124,8 @@ module _ (r m : Reader) (bracket : Leads (one terminal.OpenBracket) closed r clo
     abbrev side : Open
     side = within [] (whole ∷ [])
 
-    past_whole : Leads (pattern role.EntryWhole) closed m side u
-    past_whole = whole_leads m unbound u whole built
+    past_whole : Advances (pattern role.EntryWhole) closed m side u
+    past_whole = whole_advances m unbound u whole built
 
     pub rule_stops_at_arrow : (e : SpecError) → Missed terminal.Arrow u e → Stops approximation_rule closed r e
     rule_stops_at_arrow e h =
@@ -134,8 +134,8 @@ module _ (r m : Reader) (bracket : Leads (one terminal.OpenBracket) closed r clo
         (then_stops (one terminal.Arrow) behind_whole_arrow side u e (mark_stops terminal.Arrow side u e (whole_calm whole) h)))
 
     module _ (v : Reader) (arrow : Took terminal.Arrow u v) where
-      past_whole_arrow : Leads (one terminal.Arrow) side u side v
-      past_whole_arrow = mark_leads terminal.Arrow side u v tt (whole_calm whole) arrow
+      past_whole_arrow : Advances (one terminal.Arrow) side u side v
+      past_whole_arrow = mark_advances terminal.Arrow side u v tt (whole_calm whole) arrow
 
       pub rule_stops_in_form : (e : SpecError) → Stops (name role.EntryAt) side v e → Stops approximation_rule closed r e
       rule_stops_in_form e h =
@@ -144,7 +144,7 @@ module _ (r m : Reader) (bracket : Leads (one terminal.OpenBracket) closed r clo
           (later_stops (one terminal.Arrow) behind_whole_arrow side side u v e past_whole_arrow
           (then_stops (name role.EntryAt) behind_at side v e h)))
 
-      module _ (w : Reader) (form : Form) (at : Leads (name role.EntryAt) side v (formed form) w) where
+      module _ (w : Reader) (form : Form) (at : Advances (name role.EntryAt) side v (formed form) w) where
         pub rule_stops_at_bracket : (e : SpecError) → Missed terminal.CloseBracket w e → Stops approximation_rule closed r e
         rule_stops_at_bracket e h =
             later_stops (one terminal.OpenBracket) behind_bracket closed closed r m e bracket
@@ -159,7 +159,7 @@ module _ (r m : Reader) (bracket : Leads (one terminal.OpenBracket) closed r clo
             (then_reads (pattern role.EntryWhole) behind_whole closed side closed m u z result past_whole
             (then_reads (one terminal.Arrow) behind_whole_arrow side side closed u v z result past_whole_arrow
             (then_reads (name role.EntryAt) behind_at side (formed form) closed v w z result at
-            (then_reads (one terminal.CloseBracket) form_entries (formed form) (formed form) closed w y z result (mark_leads terminal.CloseBracket (formed form) w y tt (formed_calm form) close) h))))
+            (then_reads (one terminal.CloseBracket) form_entries (formed form) (formed form) closed w y z result (mark_advances terminal.CloseBracket (formed form) w y tt (formed_calm form) close) h))))
 
 -- ---- what stays at a mark
 
@@ -223,9 +223,9 @@ unfolding adds
 word_adds text d l = ap (λ z. record d { approximations = d.approximations + 1; last = z }) (sym l)
 
 -- the first one
-pub word_leads : (r m : Reader) (x : Lexeme) → sees terminal.Approximation r.tokens.now ≡ true → r.automata ≢ 0 → r.approximations ≡ 0 → r.tokens.now ≡ x ∷ m.tokens.now → state_of m ≡ state_of r → end_of m ≡ end_of r
+pub word_advances : (r m : Reader) (x : Lexeme) → sees terminal.Approximation r.tokens.now ≡ true → r.automata ≢ 0 → r.approximations ≡ 0 → r.tokens.now ≡ x ∷ m.tokens.now → state_of m ≡ state_of r → end_of m ≡ end_of r
     → (ps : List Part) → from closed (one terminal.Approximation ∷ ps) r ≡ settled (outcome (end_of m) ps (record (state_of m) { approximations = 1 }) m.tokens.now)
-word_leads r m x s later none tokens state end ps =
+word_advances r m x s later none tokens state end ps =
     let d = declared closed r in
     let seen : matches terminal.Approximation x ≡ true = rw tokens at s in
     let few : nat_le 1 r.approximations ≡ false = grind (arith, nat_tests) in

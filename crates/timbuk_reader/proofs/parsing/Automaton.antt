@@ -28,7 +28,7 @@ use Rattle.spec_text.specs.Rows.{or, when, wrong_count, over, passed, misnamed, 
 use Rattle.spec_text.specs.Reading.{End, outcome}
 use Rattle.timbuk_reader.specs.View.{Open, closed, declared, state_of, end_of, from, as_error, refusal_at, refusal}
 use Rattle.spec_text.specs.Reading.{settled, sees}
-use Rattle.timbuk_reader.specs.Reads.{Leads, Stops, IsCalm, Stands, HasNoWord}
+use Rattle.timbuk_reader.specs.Reads.{Advances, Stops, IsCalm, Stands, HasNoWord}
 use Rattle.timbuk_reader.specs.Patterns.{Advanced}
 use Rattle.timbuk_reader.specs.declared.meaning.Meaning.{Meaning as Told}
 use Rattle.timbuk_reader.specs.declared.meaning.Meaning.TheVariants as told
@@ -76,17 +76,17 @@ no_state (Some q) (told.Variable v) e not = cc
 no_state (Some q) (told.State p) e not = absurd (not p refl)
 no_state (Some q) (told.Symbol f n) e not = cc
 
--- what is told as no state means nothing there
+-- what is answered as no state means nothing there
 pub means_nothing : (p : Role) (text : Text) (r : Reader) (m : Told) → UsesState p → meant_by m ≡ meaning (state_of r) p text → ((q : ℕ) → m ≡ told.State q → ⊥) → meaning (state_of r) p text ≡ unknown
 means_nothing p text r m u e not =
     let used = used_meaning p text (state_of r) u in
     used ∙ no_state (position (bytes_eq text) (current (state_of r)).states) m (e ∙ used) not
 
-state_place : (o : Option ℕ) (q : ℕ) → as_state o ≡ a_state q → o ≡ Some q
+pub state_place : (o : Option ℕ) (q : ℕ) → as_state o ≡ a_state q → o ≡ Some q
 state_place None q e = cc
 state_place (Some p) q e = cc
 
--- a state that is told is one of the automaton
+-- a state that is answered is one of the automaton
 pub state_below : (p : Role) (text : Text) (r m : Reader) (q : ℕ) → UsesState p → meaning (state_of r) p text ≡ a_state q → state_of m ≡ state_of r → q < length (states_of m)
 state_below p text r m q u e same =
     let states = (current (state_of r)).states in
@@ -95,7 +95,7 @@ state_below p text r m q u e same =
 
 -- ---- the rows of such a name
 
-short : (text : Text) → length text ≤ 255 → nat_lt 255 (length text) ≡ false
+pub short : (text : Text) → length text ≤ 255 → nat_lt 255 (length text) ≡ false
 short text h = grind (arith, nat_tests)
 
 pub state_row : (p : Role) (text : Text) (d : Declared) (q : ℕ) → MeansState p → length text ≤ 255 → meaning d p text ≡ a_state q → use_row (terminal.Named p) text d ≡ None
@@ -163,9 +163,9 @@ module _ (p : Role) (o : Open) (r : Reader) (u : MeansState p) (ready : IsReady 
         ∙ (λ i. outcome (sym h.end i) ps (after leaf (uses p q (placed p (shape.State q) (sym (declared_same o r m h.state h.bound) i)))) (same i))
 
     -- a state was read
-    pub state_leads : sees terminal.OpenParen m.tokens.now ≡ false → (ps : List Part)
+    pub state_advances : sees terminal.OpenParen m.tokens.now ≡ false → (ps : List Part)
         → from o (name p ∷ ps) r ≡ settled (outcome (end_of m) ps (record (uses p q (placed p (shape.State q) (declared o m))) { last = any }) m.tokens.now)
-    state_leads alone ps = ap settled (behind_name ps) ∙ read_after leaf leaf_whole (end_of m) ps (uses p q (placed p (shape.State q) (declared o m))) m.tokens.now alone
+    state_advances alone ps = ap settled (behind_name ps) ∙ read_after leaf leaf_whole (end_of m) ps (uses p q (placed p (shape.State q) (declared o m))) m.tokens.now alone
 
     -- a `(` follows
     pub applied_stops : (e : SpecError) → sees terminal.OpenParen m.tokens.now ≡ true → e ≡ error.Fault (refusal kind.Expected m) → Stops (name p) o r e
@@ -179,9 +179,9 @@ pub closed_ready : (r : Reader) → IsReady closed r
 closed_ready r = calm_ready closed r refl refl
 
 -- what is kept of it
-pub kept_leads : (p : Role) (o q : Open) (r m u : Reader) (state : ℕ) → IsReady o r → ReadState p r state m → SameTokens m u
-    → declared q u ≡ record (uses p state (placed p (shape.State state) (declared o m))) { last = any } → Leads (name p) o r q u
-kept_leads p o q r m u state ready h k e = record {
+pub kept_advances : (p : Role) (o q : Open) (r m u : Reader) (state : ℕ) → IsReady o r → ReadState p r state m → SameTokens m u
+    → declared q u ≡ record (uses p state (placed p (shape.State state) (declared o m))) { last = any } → Advances (name p) o r q u
+kept_advances p o q r m u state ready h k e = record {
   by = λ ps. h.by o ready ps ∙ (λ i. settled (outcome (sym k.end i) ps (sym e i) (sym k.tokens i)));
 }
 
@@ -197,11 +197,11 @@ stops_closed p r e h = h.by closed (closed_ready r)
 pub same_tokens : (r : Reader) → SameTokens r r
 same_tokens r = record { tokens = refl; end = refl }
 
-pub described_leads : (r m : Reader) (state : ℕ) → ReadState role.DescribedState r state m → Leads (name role.DescribedState) closed r closed m
-described_leads r m state h = kept_leads role.DescribedState closed closed r m m state (closed_ready r) h (same_tokens m) refl
+pub described_advances : (r m : Reader) (state : ℕ) → ReadState role.DescribedState r state m → Advances (name role.DescribedState) closed r closed m
+described_advances r m state h = kept_advances role.DescribedState closed closed r m m state (closed_ready r) h (same_tokens m) refl
 
-pub final_leads : (r m u : Reader) (state : ℕ) → ReadState role.FinalState r state m → SameTokens m u → state_of u ≡ uses role.FinalState state (state_of m) → Leads (name role.FinalState) closed r closed u
-final_leads r m u state h k e = kept_leads role.FinalState closed closed r m u state (closed_ready r) h k (ap (after any) e)
+pub final_advances : (r m u : Reader) (state : ℕ) → ReadState role.FinalState r state m → SameTokens m u → state_of u ≡ uses role.FinalState state (state_of m) → Advances (name role.FinalState) closed r closed u
+final_advances r m u state h k e = kept_advances role.FinalState closed closed r m u state (closed_ready r) h k (ap (after any) e)
 
 -- ---- targets of transitions
 
@@ -218,18 +218,18 @@ closing a head args r d e = e ∙ closing_by (r.automata == 2) a head args r
 headed_ready : (head : Head) (args : List ℕ) (r : Reader) → IsReady (headed head args) r
 headed_ready head args r = calm_ready (headed head args) r refl refl
 
-pub epsilon_leads : (from to : ℕ) (r m u : Reader) → ReadState role.TransitionTarget r to m → SameTokens m u → state_of u ≡ with_epsilon from to (state_of m)
-    → Leads (name role.TransitionTarget) (headed (state_head from) []) r closed u
-epsilon_leads from to r m u h k e =
+pub epsilon_advances : (from to : ℕ) (r m u : Reader) → ReadState role.TransitionTarget r to m → SameTokens m u → state_of u ≡ with_epsilon from to (state_of m)
+    → Advances (name role.TransitionTarget) (headed (state_head from) []) r closed u
+epsilon_advances from to r m u h k e =
     let a = current (state_of m) in
-    kept_leads role.TransitionTarget (headed (state_head from) []) closed r m u to (headed_ready (state_head from) [] r) h k
+    kept_advances role.TransitionTarget (headed (state_head from) []) closed r m u to (headed_ready (state_head from) [] r) h k
     (closing (record a { eps = a.eps ++ (from, to) ∷ [] }) (state_head from) [] m (state_of u) e)
 
-pub trans_leads : (f : ℕ) (args : List ℕ) (to : ℕ) (r m u : Reader) → ReadState role.TransitionTarget r to m → SameTokens m u → state_of u ≡ with_trans (trans_of f args to) (state_of m)
-    → Leads (name role.TransitionTarget) (headed (symbol_head f) args) r closed u
-trans_leads f args to r m u h k e =
+pub trans_advances : (f : ℕ) (args : List ℕ) (to : ℕ) (r m u : Reader) → ReadState role.TransitionTarget r to m → SameTokens m u → state_of u ≡ with_trans (trans_of f args to) (state_of m)
+    → Advances (name role.TransitionTarget) (headed (symbol_head f) args) r closed u
+trans_advances f args to r m u h k e =
     let a = current (state_of m) in
-    kept_leads role.TransitionTarget (headed (symbol_head f) args) closed r m u to (headed_ready (symbol_head f) args r) h k
+    kept_advances role.TransitionTarget (headed (symbol_head f) args) closed r m u to (headed_ready (symbol_head f) args r) h k
     (closing (record a { trans = a.trans ++ trans_of f args to ∷ [] }) (symbol_head f) args m (state_of u) e)
 
 pub target_stops : (head : Head) (args : List ℕ) (r : Reader) (e : SpecError) → StopsState role.TransitionTarget r e → Stops (name role.TransitionTarget) (headed head args) r e
@@ -290,10 +290,10 @@ third_stops r e enough seen told = record {
   by = λ ne ps. ap (λ z. as_error (settled z)) (word_fault ps (end_of r) (state_of r) r.tokens.now refl refl enough seen) ∙ ap Err (sym told);
 }
 
-pub automaton_leads : (r u : Reader) (x : Lexeme) → r.automata < 2 → sees terminal.Automaton r.tokens.now ≡ true → r.tokens.now ≡ x ∷ u.tokens.now → end_of u ≡ end_of r
-    → state_of u ≡ record (state_of r) { automata = r.automata + 1 } → Leads (one terminal.Automaton) closed r closed u
+pub automaton_advances : (r u : Reader) (x : Lexeme) → r.automata < 2 → sees terminal.Automaton r.tokens.now ≡ true → r.tokens.now ≡ x ∷ u.tokens.now → end_of u ≡ end_of r
+    → state_of u ≡ record (state_of r) { automata = r.automata + 1 } → Advances (one terminal.Automaton) closed r closed u
 unfolding adds
-automaton_leads r u x few seen tokens end state = record {
+automaton_advances r u x few seen tokens end state = record {
   by = λ ps.
       let d = state_of r in
       let matched : matches terminal.Automaton x ≡ true = rw tokens at seen in
@@ -302,114 +302,3 @@ automaton_leads r u x few seen tokens end state = record {
       (row_other terminal.Automaton d x tt matched (quiet_by d x refl refl) ∙ counted_row x.text d None (below 2 d.automata limit.Automata few))
       ∙ (λ i. outcome (sym end i) ps (sym state i) u.tokens.now));
 }
-
--- ---- heads of transitions
-
-symbol_row : (text : Text) (d : Declared) (f n : ℕ) → length text ≤ 255 → d.applications ≡ [] → meaning d role.TransitionHead text ≡ a_symbol f n → use_row (terminal.Named role.TransitionHead) text d ≡ None
-unfolding passed misnamed
-symbol_row text d f n s a m = rw (short text s, m, a, and-false (nat_lt 0 n)) refl
-
-symbol_adds : (text : Text) (d : Declared) (f n : ℕ) → meaning d role.TransitionHead text ≡ a_symbol f n → adds (terminal.Named role.TransitionHead) text d ≡ named role.TransitionHead (a_symbol f n) d
-unfolding adds
-symbol_adds text d f n m = ap (λ m. named role.TransitionHead m d) m
-
-head_meaning : (text : Text) (d : Declared) → meaning d role.TransitionHead text ≡ or_else (as_symbol d.symbols (number_of d.symbols text)) (as_state (position (bytes_eq text) (current d).states))
-unfolding meaning
-head_meaning text d = refl
-
--- a variable or nothing
-abbrev pub IsNoHead : Told → Type 0
-IsNoHead m = ((v : ℕ) × (m ≡ told.Variable v)) ⊎ (m ≡ told.Unknown)
-
-no_variable_head : (f q : Option ℕ) (symbols : List Symbol) (v : ℕ) → a_variable v ≡ or_else (as_symbol symbols f) (as_state q) → ⊥
-no_variable_head (Some g) q symbols v e = cc
-no_variable_head None (Some p) symbols v e = cc
-no_variable_head None None symbols v e = cc
-
-nothing_meant : (m : Told) (f q : Option ℕ) (symbols : List Symbol) → meant_by m ≡ or_else (as_symbol symbols f) (as_state q) → IsNoHead m → meant_by m ≡ unknown
-nothing_meant m f q symbols e (inl h) = absurd (no_variable_head f q symbols h.0 (sym (ap meant_by h.1) ∙ e))
-nothing_meant m f q symbols e (inr h) = ap meant_by h
-
-state_at_head : (f q : Option ℕ) (symbols : List Symbol) (p : ℕ) → or_else (as_symbol symbols f) (as_state q) ≡ a_state p → q ≡ Some p
-state_at_head (Some g) q symbols p e = cc
-state_at_head None q symbols p e = state_place q p e
-
--- a state at the head is one of the automaton
-pub head_state_below : (text : Text) (r m : Reader) (q : ℕ) → meaning (state_of r) role.TransitionHead text ≡ a_state q → state_of m ≡ state_of r → q < length (states_of m)
-head_state_below text r m q e same =
-    let place = state_at_head (number_of r.signature text) (position (bytes_eq text) (states_of r)) r.signature q (sym (head_meaning text (state_of r)) ∙ e) in
-    subst (λ (d : Declared). q < length (current d).states) (sym same) (position-Some (bytes_eq text) (states_of r) q [] place).0
-
-symbol_at_head : (g q : Option ℕ) (symbols : List Symbol) (f n : ℕ) → or_else (as_symbol symbols g) (as_state q) ≡ a_symbol f n → (g ≡ Some f) × (unwrap_or (arity_of symbols f) 0 ≡ n)
-symbol_at_head (Some g) q symbols f n e = let same : g ≡ f = cc in (ap Some same, ap (λ k. unwrap_or (arity_of symbols k) 0) (sym same) ∙ cc)
-symbol_at_head None (Some p) symbols f n e = cc
-symbol_at_head None None symbols f n e = cc
-
-arity_is : (symbols : List Symbol) (f n : ℕ) (s : Symbol) → slice_get symbols f ≡ Some s → unwrap_or (arity_of symbols f) 0 ≡ n → is_symbol symbols f n ≡ true
-arity_is symbols f n s e h =
-    let arity = ap (option_map (λ (s : Symbol). s.1)) e in
-    ap (is_arity n) arity ∙ eq-eqb n s.1 (sym h ∙ ap (λ o. unwrap_or o 0) arity)
-
--- a symbol at the head is one of the signature, with its arity
-pub head_symbol_over : (text : Text) (r : Reader) (f n : ℕ) → meaning (state_of r) role.TransitionHead text ≡ a_symbol f n → is_symbol r.signature f n ≡ true
-head_symbol_over text r f n e =
-    let found = symbol_at_head (number_of r.signature text) (position (bytes_eq text) (states_of r)) r.signature f n (sym (head_meaning text (state_of r)) ∙ e) in
-    let inside : f < length r.signature = subst (λ k. f < k) (length-map r.signature (λ (s : Symbol). s.0)) (position-Some (bytes_eq text) (names_of r.signature) f [] found.0).0 in
-    arity_is r.signature f n _ (slice_get-get_or r.signature f ([], 0) inside) found.1
-
-module _ (r m : Reader) (text : Text) (s : Stands (terminal.Named role.TransitionHead) r text) (h : Advanced r m) where
-  abbrev head : Part
-  head = name role.TransitionHead
-
-  module _ (q : ℕ) (means : meaning (state_of r) role.TransitionHead text ≡ a_state q) where
-    -- a state from which an epsilon transition goes
-    pub state_head_leads : sees terminal.OpenParen m.tokens.now ≡ false → Leads head closed r (headed (state_head q) []) m
-    state_head_leads alone =
-        kept_leads role.TransitionHead closed (headed (state_head q) []) r m m q (closed_ready r)
-        (record { by = λ o ready. state_leads role.TransitionHead o r tt ready text q m s means h alone }) (same_tokens m) refl
-
-    pub state_head_stops : (e : SpecError) → sees terminal.OpenParen m.tokens.now ≡ true → e ≡ error.Fault (refusal kind.Expected m) → Stops head closed r e
-    state_head_stops e seen told = applied_stops role.TransitionHead closed r tt (closed_ready r) text q m s means h e seen told
-
-  module _ (f n : ℕ) (means : meaning (state_of r) role.TransitionHead text ≡ a_symbol f n) where
-    behind_symbol : (ps : List Part) → outcome (end_of r) (head ∷ ps) (state_of r) r.tokens.now ≡ outcome (end_of m) ps (named role.TransitionHead (a_symbol f n) (state_of m)) m.tokens.now
-    behind_symbol ps =
-        let d = state_of r in
-        let t = terminal.Named role.TransitionHead in
-        let same : s.rest ≡ m.tokens.now = let e = sym s.tokens ∙ h.tokens in cc in
-        let few : length s.token.text ≤ 255 = subst (λ z. length z ≤ 255) (sym s.text_is) s.short in
-        let means : meaning d role.TransitionHead s.token.text ≡ a_symbol f n = ap (meaning d role.TransitionHead) s.text_is ∙ means in
-        ap (outcome (end_of r) (head ∷ ps) d) s.tokens
-        ∙ step_on (head ∷ ps) t ps (end_of r) d s.token s.rest (one_front t ps) s.matched (row_other t d s.token tt s.matched (quiet_by d s.token refl refl) ∙ symbol_row s.token.text d f n few refl means)
-        ∙ ap (λ z. outcome (end_of r) ps z s.rest) (symbol_adds s.token.text d f n means)
-        ∙ (λ i. outcome (sym h.end i) ps (named role.TransitionHead (a_symbol f n) (sym h.state i)) (same i))
-
-  module _ (f : ℕ) (means : meaning (state_of r) role.TransitionHead text ≡ a_symbol f 0) where
-    -- a symbol without arguments
-    pub constant_leads : sees terminal.OpenParen m.tokens.now ≡ false → Leads head closed r (headed (symbol_head f) []) m
-    constant_leads alone = record {
-      by = λ ps. ap settled (behind_symbol f 0 means ps) ∙ read_after constant constant_whole (end_of m) ps (declared (headed (symbol_head f) []) m) m.tokens.now alone;
-    }
-
-    pub constant_stops : (e : SpecError) → sees terminal.OpenParen m.tokens.now ≡ true → e ≡ error.Fault (refusal kind.WrongArity m) → Stops head closed r e
-    constant_stops e seen told = record {
-      by = λ ne ps. ap (λ z. as_error (settled z)) (behind_symbol f 0 means ps ∙ constant_applied ps (end_of m) (after constant (declared (headed (symbol_head f) []) m)) m.tokens.now refl seen) ∙ ap Err (sym told);
-    }
-
-  -- a symbol with arguments
-  pub function_leads : (f n : ℕ) → n ≢ 0 → meaning (state_of r) role.TransitionHead text ≡ a_symbol f n → Leads head closed r (begun f n) m
-  function_leads f zero some means = absurd (some refl)
-  function_leads f (suc n) some means = record { by = λ ps. ap settled (behind_symbol f (suc n) means ps) }
-
--- an unknown name at the head
-pub unknown_head_stops : (r : Reader) (text : Text) (m : Told) (e : SpecError) → Stands (terminal.Named role.TransitionHead) r text → meant_by m ≡ meaning (state_of r) role.TransitionHead text
-    → IsNoHead m → e ≡ error.Fault (refusal kind.UnknownName r) → Stops (name role.TransitionHead) closed r e
-unknown_head_stops r text m e s means none told =
-    unknown_stops role.TransitionHead closed r tt (closed_ready r) text e s
-    (sym means ∙ nothing_meant m (number_of r.signature text) (position (bytes_eq text) (states_of r)) r.signature (means ∙ head_meaning text (state_of r)) none) told
-
--- what follows the head of a transition without arguments
-pub no_arguments : (head : Head) (r : Reader) → sees terminal.OpenParen r.tokens.now ≡ false → Leads head_arguments (headed head []) r (headed head []) r
-no_arguments head r unseen =
-    maybe_none (one terminal.OpenParen then name role.TransitionArgument then many (one terminal.Comma then name role.TransitionArgument) then one terminal.CloseParen) terminal.OpenParen (headed head []) r
-    (then_head terminal.OpenParen (name role.TransitionArgument then many (one terminal.Comma then name role.TransitionArgument) then one terminal.CloseParen)) unseen

@@ -13,11 +13,11 @@ use Rattle.timbuk_reader.specs.declared.state.Reader.{Reader}
 use Rattle.spec_text.specs.Declarations.{Declared}
 use Rattle.timbuk_reader.specs.View.{declared, end_of, from, as_error, refusal}
 use Rattle.spec_text.specs.Reading.{settled, sees}
-use Rattle.timbuk_reader.specs.Reads.{Leads, Stops, Took}
+use Rattle.timbuk_reader.specs.Reads.{Advances, Stops, Took}
 use Rattle.timbuk_reader.specs.Patterns.{LacksArguments, LacksArgument, too_few, no_comma, LacksEnd, too_many, no_end}
 use Rattle.timbuk_reader.specs.AutomatonReads.{head_arguments, argument_of, arguing, begun, IsReady, ReadState, StopsState, ReadArgument, StopsArgument, ReadArguments, StopsArguments, SomeArguments}
 use Rattle.timbuk_reader.proofs.parsing.Parts.{alike, both_alike}
-use Rattle.timbuk_reader.proofs.parsing.Automaton.{kept_leads, same_tokens}
+use Rattle.timbuk_reader.proofs.parsing.Automaton.{kept_advances, same_tokens}
 use Rattle.timbuk_reader.proofs.parsing.Arguments.{took_run, ready_count, more_of, function_bare, arguments_open, argument_next, argument_lacks, argument_exceeds, argument_unmarked, arguments_close}
 
 abbrev argument : Part
@@ -47,9 +47,9 @@ module _ (f n : ℕ) (args : List ℕ) (r : Reader) where
   ready : length args < n → sees terminal.CloseParen r.tokens.now ≡ false → IsReady (arguing f n args) r
   ready less unseen = record { last = refl; count = ready_count (argument_of f n args) [] r.tokens.now (few n args less) unseen }
 
-  pub argument_leads : (m : Reader) (q : ℕ) → length args < n → sees terminal.CloseParen r.tokens.now ≡ false → ReadState role.TransitionArgument r q m → Leads argument (arguing f n args) r (arguing f n (args ++ q ∷ [])) m
-  argument_leads m q less unseen h =
-      kept_leads role.TransitionArgument (arguing f n args) (arguing f n (args ++ q ∷ [])) r m m q (ready less unseen) h (same_tokens m)
+  pub argument_advances : (m : Reader) (q : ℕ) → length args < n → sees terminal.CloseParen r.tokens.now ≡ false → ReadState role.TransitionArgument r q m → Advances argument (arguing f n args) r (arguing f n (args ++ q ∷ [])) m
+  argument_advances m q less unseen h =
+      kept_advances role.TransitionArgument (arguing f n args) (arguing f n (args ++ q ∷ [])) r m m q (ready less unseen) h (same_tokens m)
       (ap (λ shapes. record (among f n (args ++ q ∷ []) m) { applications = record (argument_of f n []) { args = shapes } ∷ [] }) (map-append shape.State args (q ∷ [])))
 
   pub argument_stops : (e : SpecError) → length args < n → sees terminal.CloseParen r.tokens.now ≡ false → StopsState role.TransitionArgument r e → Stops argument (arguing f n args) r e
@@ -57,7 +57,7 @@ module _ (f n : ℕ) (args : List ℕ) (r : Reader) where
 
 -- an argument, whichever the symbol is
 pub read_argument : (r m : Reader) (q : ℕ) → sees terminal.CloseParen r.tokens.now ≡ false → ReadState role.TransitionArgument r q m → ReadArgument r q m
-read_argument r m q unseen h = record { by = λ f n args less. argument_leads f n args r m q less unseen h }
+read_argument r m q unseen h = record { by = λ f n args less. argument_advances f n args r m q less unseen h }
 
 pub stops_argument : (r : Reader) (e : SpecError) → sees terminal.CloseParen r.tokens.now ≡ false → StopsState role.TransitionArgument r e → StopsArgument r e
 stops_argument r e unseen h = record { by = λ f n args less. argument_stops f n args r e less unseen h }
@@ -80,8 +80,8 @@ module _ (n : ℕ) where
   pub first_stops : (r m : Reader) (e : SpecError) → 0 < n → Took terminal.OpenParen r m → StopsArgument m e → StopsArguments n r e
   first_stops r m e some k h = record { by = λ f. record { by = λ ne ps. ap as_error (opened f r m ps k) ∙ (h.by f n [] some).by ne (more_of argument ∷ ps) } }
 
-  pub first_leads : (r m u : Reader) (q : ℕ) → 0 < n → Took terminal.OpenParen r m → ReadArgument m q u → SomeArguments n r (q ∷ []) u
-  first_leads r m u q some k h = record { by = λ f ps. opened f r m ps k ∙ (h.by f n [] some).by (more_of argument ∷ ps) }
+  pub first_advances : (r m u : Reader) (q : ℕ) → 0 < n → Took terminal.OpenParen r m → ReadArgument m q u → SomeArguments n r (q ∷ []) u
+  first_advances r m u q some k h = record { by = λ f ps. opened f r m ps k ∙ (h.by f n [] some).by (more_of argument ∷ ps) }
 
   pub next_stops : (r m v : Reader) (args : List ℕ) (e : SpecError) → SomeArguments n r args m → length args < n → Took terminal.Comma m v → StopsArgument v e → StopsArguments n r e
   next_stops r m v args e g less k h = record {
@@ -90,8 +90,8 @@ module _ (n : ℕ) where
     };
   }
 
-  pub next_leads : (r m v u : Reader) (args : List ℕ) (q : ℕ) → SomeArguments n r args m → length args < n → Took terminal.Comma m v → ReadArgument v q u → SomeArguments n r (args ++ q ∷ []) u
-  next_leads r m v u args q g less k h = record {
+  pub next_advances : (r m v u : Reader) (args : List ℕ) (q : ℕ) → SomeArguments n r args m → length args < n → Took terminal.Comma m v → ReadArgument v q u → SomeArguments n r (args ++ q ∷ []) u
+  next_advances r m v u args q g less k h = record {
     by = λ f ps.
         let qs = many (one terminal.Comma then argument) ∷ one terminal.CloseParen ∷ ps in
         g.by f ps ∙ between f m v args ps less k ∙ (h.by f n args less).by qs

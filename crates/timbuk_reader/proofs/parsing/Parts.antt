@@ -20,7 +20,7 @@ use Rattle.spec_text.specs.Reading.{End, outcome, ends_by, end_by, unless, termi
 use Rattle.spec_text.specs.Declarations.{behind, added}
 use Rattle.timbuk_reader.specs.View.{Open, closed, declared, end_of, from, as_error}
 use Rattle.spec_text.specs.Reading.{settled, sees}
-use Rattle.timbuk_reader.specs.Reads.{Leads, Stops, Reads, Turns}
+use Rattle.timbuk_reader.specs.Reads.{Advances, Stops, Reads, Turns}
 
 -- ---- open parts that go on alike
 
@@ -141,18 +141,18 @@ module _ (a : Part) (t : Terminal) (h : Head a t) (end : End) (d : Declared) whe
 run_both : (a b : Part) (o : Open) (ps : List Part) (r : Reader) → from o ((a then b) ∷ ps) r ≡ from o (a ∷ b ∷ ps) r
 run_both a b o ps r = ap settled (alike ((a then b) ∷ ps) (a ∷ b ∷ ps) (end_of r) (declared o r) r.tokens.now (both_alike a b ps))
 
-pub then_leads : (a b : Part) (o p q : Open) (r m u : Reader) → Leads a o r p m → Leads b p m q u → Leads (a then b) o r q u
-then_leads a b o p q r m u h k = record { by = λ ps. run_both a b o ps r ∙ h.by (b ∷ ps) ∙ k.by ps }
+pub then_advances : (a b : Part) (o p q : Open) (r m u : Reader) → Advances a o r p m → Advances b p m q u → Advances (a then b) o r q u
+then_advances a b o p q r m u h k = record { by = λ ps. run_both a b o ps r ∙ h.by (b ∷ ps) ∙ k.by ps }
 
 pub then_stops : (a b : Part) (o : Open) (r : Reader) (e : SpecError) → Stops a o r e → Stops (a then b) o r e
 then_stops a b o r e h = record { by = λ ne ps. ap as_error (run_both a b o ps r) ∙ h.by ne (b ∷ ps) }
 
-pub later_stops : (a b : Part) (o p : Open) (r m : Reader) (e : SpecError) → Leads a o r p m → Stops b p m e → Stops (a then b) o r e
+pub later_stops : (a b : Part) (o p : Open) (r m : Reader) (e : SpecError) → Advances a o r p m → Stops b p m e → Stops (a then b) o r e
 later_stops a b o p r m e h k = record { by = λ ne ps. ap as_error (run_both a b o ps r ∙ h.by (b ∷ ps)) ∙ k.by ne ps }
 
 -- a part that came last, where its result is handed on
-pub then_reads : {X : Type 0} (a b : Part) (o p q : Open) (r m u : Reader) (result : Result X SpecError) → Leads a o r p m → Reads b p m result q u → Reads (a then b) o r result q u
-then_reads a b o p q r m u (Ok x) h k = then_leads a b o p q r m u h k
+pub then_reads : {X : Type 0} (a b : Part) (o p q : Open) (r m u : Reader) (result : Result X SpecError) → Advances a o r p m → Reads b p m result q u → Reads (a then b) o r result q u
+then_reads a b o p q r m u (Ok x) h k = then_advances a b o p q r m u h k
 then_reads a b o p q r m u (Err e) h k = later_stops a b o p r m e h k
 
 -- ---- a part any number of times
@@ -160,10 +160,10 @@ then_reads a b o p q r m u (Err e) h k = later_stops a b o p r m e h k
 pub turns_start : (p : Part) (r : Reader) → Turns p r p r
 turns_start p r = record { by = λ ps. refl }
 
-pub turns_again : (a : Part) (t : Terminal) (r m u : Reader) → Turns (many a) r (many a) m → Head a t → sees t m.tokens.now ≡ true → Leads a closed m closed u → Turns (many a) r (many a) u
+pub turns_again : (a : Part) (t : Terminal) (r m u : Reader) → Turns (many a) r (many a) m → Head a t → sees t m.tokens.now ≡ true → Advances a closed m closed u → Turns (many a) r (many a) u
 turns_again a t r m u k h e l = record { by = λ ps. k.by ps ∙ ap settled (many_take a t h (end_of m) (declared closed m) ps m.tokens.now e) ∙ l.by (many a ∷ ps) }
 
-pub turns_stop : (a : Part) (t : Terminal) (r m : Reader) → Turns (many a) r (many a) m → Head a t → sees t m.tokens.now ≡ false → Leads (many a) closed r closed m
+pub turns_stop : (a : Part) (t : Terminal) (r m : Reader) → Turns (many a) r (many a) m → Head a t → sees t m.tokens.now ≡ false → Advances (many a) closed r closed m
 turns_stop a t r m k h e = record { by = λ ps. k.by ps ∙ ap settled (many_skip a t h (end_of m) (declared closed m) ps m.tokens.now e) }
 
 pub turns_err : (a : Part) (t : Terminal) (r m : Reader) (e : SpecError) → Turns (many a) r (many a) m → Head a t → sees t m.tokens.now ≡ true → Stops a closed m e → Stops (many a) closed r e
@@ -171,16 +171,16 @@ turns_err a t r m e k h s l = record { by = λ ne ps. ap as_error (k.by ps ∙ a
 
 -- ---- a part at most once
 
-pub maybe_leads : (a : Part) (t : Terminal) (o q : Open) (r u : Reader) → Head a t → sees t r.tokens.now ≡ true → Leads a o r q u → Leads (maybe a) o r q u
-maybe_leads a t o q r u h e k = record { by = λ ps. ap settled (maybe_take a t h (end_of r) (declared o r) ps r.tokens.now e) ∙ k.by ps }
+pub maybe_advances : (a : Part) (t : Terminal) (o q : Open) (r u : Reader) → Head a t → sees t r.tokens.now ≡ true → Advances a o r q u → Advances (maybe a) o r q u
+maybe_advances a t o q r u h e k = record { by = λ ps. ap settled (maybe_take a t h (end_of r) (declared o r) ps r.tokens.now e) ∙ k.by ps }
 
 pub maybe_stops : (a : Part) (t : Terminal) (o : Open) (r : Reader) (e : SpecError) → Head a t → sees t r.tokens.now ≡ true → Stops a o r e → Stops (maybe a) o r e
 maybe_stops a t o r e h s k = record { by = λ ne ps. ap as_error (ap settled (maybe_take a t h (end_of r) (declared o r) ps r.tokens.now s)) ∙ k.by ne ps }
 
 -- the part, where its result is handed on
 pub maybe_reads : {X : Type 0} (a : Part) (t : Terminal) (o q : Open) (r u : Reader) (result : Result X SpecError) → Head a t → sees t r.tokens.now ≡ true → Reads a o r result q u → Reads (maybe a) o r result q u
-maybe_reads a t o q r u (Ok x) h e k = maybe_leads a t o q r u h e k
+maybe_reads a t o q r u (Ok x) h e k = maybe_advances a t o q r u h e k
 maybe_reads a t o q r u (Err x) h e k = maybe_stops a t o r x h e k
 
-pub maybe_none : (a : Part) (t : Terminal) (o : Open) (r : Reader) → Head a t → sees t r.tokens.now ≡ false → Leads (maybe a) o r o r
+pub maybe_none : (a : Part) (t : Terminal) (o : Open) (r : Reader) → Head a t → sees t r.tokens.now ≡ false → Advances (maybe a) o r o r
 maybe_none a t o r h e = record { by = λ ps. ap settled (maybe_skip a t h (end_of r) (declared o r) ps r.tokens.now e) }

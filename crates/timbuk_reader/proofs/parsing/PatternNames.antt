@@ -108,7 +108,7 @@ module _ (r : Reader) (depth : ℕ) (applications : List Application) (shapes : 
   use_is role.EntryWhole text h e = rw e refl
   use_is _ text h e = absurd h
 
-  -- The first row that fits a name is what the reader tells of it.
+  -- The first row that fits a name is what the reader finds of it.
   pub fault_row : (p : Role) (text : Text) (m : Meaning) → IsPatternRole p → IsFirstSide p shapes → length text ≤ 255 → meaning (state_of r) p text ≡ m → use_row (terminal.Named p) text D ≡ pattern_fault p m depth r
   fault_row p text m h first short is =
       let few : nat_lt 255 (length text) ≡ false = grind (arith, nat_tests) in

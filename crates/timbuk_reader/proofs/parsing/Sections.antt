@@ -21,7 +21,7 @@ use Rattle.spec_text.specs.Reading.{End, outcome, ends_by, end_by}
 use Rattle.spec_text.specs.Rows.{fault}
 use Rattle.timbuk_reader.specs.View.{closed, end_of, state_of, as_error, end_fault, refusal_at, refusal}
 use Rattle.spec_text.specs.Reading.{settled, sees}
-use Rattle.timbuk_reader.specs.Reads.{Leads, Stops, Turns}
+use Rattle.timbuk_reader.specs.Reads.{Advances, Stops, Turns}
 use Rattle.timbuk_reader.specs.SectionReads.{word_of, part_of, BeginsNone, at_end}
 use Rattle.timbuk_reader.proofs.parsing.Parts.{same_choice, same_end}
 use Rattle.timbuk_reader.proofs.parsing.Tokens.{calm_arity, step_unexpected}
@@ -50,10 +50,10 @@ section_skip ps end d (x ∷ xs) h = same_choice (many section ∷ ps) ps end d 
 
 -- ---- as many sections as there are
 
-pub sections_again : (s : Section) (r m u : Reader) → Turns (many section) r (many section) m → sees (word_of s) m.tokens.now ≡ true → Leads (part_of s) closed m closed u → Turns (many section) r (many section) u
+pub sections_again : (s : Section) (r m u : Reader) → Turns (many section) r (many section) m → sees (word_of s) m.tokens.now ≡ true → Advances (part_of s) closed m closed u → Turns (many section) r (many section) u
 sections_again s r m u k e l = record { by = λ ps. k.by ps ∙ ap settled (section_take s ps (end_of m) (state_of m) m.tokens.now e) ∙ l.by (many section ∷ ps) }
 
-pub sections_stop : (r m : Reader) → Turns (many section) r (many section) m → BeginsNone m.tokens.now → Leads (many section) closed r closed m
+pub sections_stop : (r m : Reader) → Turns (many section) r (many section) m → BeginsNone m.tokens.now → Advances (many section) closed r closed m
 sections_stop r m k h = record { by = λ ps. k.by ps ∙ ap settled (section_skip ps (end_of m) (state_of m) m.tokens.now h) }
 
 pub sections_err : (s : Section) (r m : Reader) (e : SpecError) → Turns (many section) r (many section) m → sees (word_of s) m.tokens.now ≡ true → Stops (part_of s) closed m e → Stops (many section) closed r e

@@ -31,7 +31,7 @@ use Rattle.spec_text.specs.Rows.{fault}
 use Rattle.spec_text.specs.Declarations.{behind, added}
 use Rattle.timbuk_reader.specs.View.{Open, closed, naming, declared, inside, state_of, end_of, end_fault, as_error, told, refusal_at, refusal}
 use Rattle.spec_text.specs.Reading.{settled, sees}
-use Rattle.timbuk_reader.specs.Reads.{Leads, Stops, Reads, IsCalm, IsMark, IsWordly, Took, Takes, Missed, Stands, HasNoWord, missed, long}
+use Rattle.timbuk_reader.specs.Reads.{Advances, Stops, Reads, IsCalm, IsMark, IsWordly, Took, Takes, Missed, Stands, HasNoWord, missed, long}
 use Rattle.timbuk_reader.proofs.parsing.Parts.{Front, choice_seen, choice_unseen, one_front}
 
 -- ---- a token that is expected is no closed word
@@ -274,8 +274,8 @@ mark_on t ps end d x rest m e f h =
     ∙ ap (λ z. outcome end ps z rest) (mark_adds t x.text d m ∙ ap (λ l. record d { last = l }) (sym f))
 
 -- a mark was taken
-pub mark_leads : (t : Terminal) (o : Open) (r u : Reader) → IsMark t → IsCalm o → Took t r u → Leads (one t) o r o u
-mark_leads t o r u m h k = record {
+pub mark_advances : (t : Terminal) (o : Open) (r u : Reader) → IsMark t → IsCalm o → Took t r u → Advances (one t) o r o u
+mark_advances t o r u m h k = record {
   by = λ ps.
       ap settled (ap (outcome (end_of r) (one t ∷ ps) (declared o r)) k.tokens
       ∙ mark_on t ps (end_of r) (declared o r) k.token u.tokens.now m h.applications h.last k.matched
@@ -299,7 +299,7 @@ pub took : (t : Terminal) (r u : Reader) (x : Lexeme) → sees t r.tokens.now �
 took t r u x e h s b n = record { token = x; matched = rw h at e; tokens = h; state = s; bound = b; end = n }
 
 pub mark_reads : {X : Type 0} (t : Terminal) (o : Open) (r u : Reader) (result : Result X SpecError) → IsMark t → IsCalm o → Takes t r result u → Reads (one t) o r result o u
-mark_reads t o r u (Ok x) m h k = mark_leads t o r u m h k
+mark_reads t o r u (Ok x) m h k = mark_advances t o r u m h k
 mark_reads t o r u (Err e) m h k = mark_stops t o r e h k
 
 -- ---- words
@@ -313,9 +313,9 @@ pub word_row : (t : Terminal) (d : Declared) (x : Lexeme) → IsWordly t → d.a
 word_row t d x w e f h = row_other t d x (word_other t w) h (calm_quiet d x e f)
 
 -- a word was read
-pub word_leads : (t : Terminal) (o q : Open) (r u : Reader) (text : Bytes) (x : Lexeme) → IsWordly t → IsCalm o → Stands t r text → use_row t text (declared o r) ≡ None
-    → r.tokens.now ≡ x ∷ u.tokens.now → end_of u ≡ end_of r → declared q u ≡ adds t text (declared o r) → Leads (one t) o r q u
-word_leads t o q r u text x w h k n tokens end state = record {
+pub word_advances : (t : Terminal) (o q : Open) (r u : Reader) (text : Bytes) (x : Lexeme) → IsWordly t → IsCalm o → Stands t r text → use_row t text (declared o r) ≡ None
+    → r.tokens.now ≡ x ∷ u.tokens.now → end_of u ≡ end_of r → declared q u ≡ adds t text (declared o r) → Advances (one t) o r q u
+word_advances t o q r u text x w h k n tokens end state = record {
   by = λ ps.
       let same : k.rest ≡ u.tokens.now = let e = sym k.tokens ∙ tokens in cc in
       let d = declared o r in

@@ -1,4 +1,4 @@
--- The whole pattern of an approximation rule, told exactly.
+-- The whole pattern of an approximation rule: what it declares exactly.
 use Rattle.std.proofs.Common.{◌≡◌, [], ◌∷◌, fold, Some, refl, sym, ap, subst, ◌∙◌, arith}
 use Rattle.ranked_terms.specs.Terms.{firsts}
 use Rattle.ranked_terms.specs.declared.term.Shape.{Shape}

@@ -16,9 +16,9 @@ use Rattle.spec_text.proofs.agreement.tokens.Labels.{label}
 use Rattle.spec_text.proofs.agreement.tokens.Runs.{or-none, or_parts_none, when-false, when_none, row-none, row_parts}
 use Rattle.spec_text.proofs.agreement.names.Rows.{IsResting, IsAtRest, arity_at_rest, no_opening, is_expected, passed_plain, misnamed_plain}
 use Rattle.spec_text.proofs.agreement.names.States.{between}
-use Rattle.spec_text.proofs.agreement.tokens.Paths.{Leads, leads_by}
+use Rattle.spec_text.proofs.agreement.tokens.Paths.{Path, path_by}
 use Rattle.spec_text.proofs.agreement.automata.States.{put, current-put, changed, put-at_rest}
-use Rattle.spec_text.proofs.agreement.automata.Names.{use_leads}
+use Rattle.spec_text.proofs.agreement.automata.Names.{use_path}
 use Rattle.spec_text.proofs.agreement.automata.Heads.{behind_head, inside, added}
 
 -- ---- the head
@@ -59,9 +59,9 @@ unfolding misnamed
 head_named d text m e h = or-none _ _ (when-false _ _ (ap is_unknown e ∙ head_known m h)) refl
 
 -- a head that means a symbol or a state
-head_leads_by : (d e : Declared) (v : Token (terminal.Named role.TransitionHead)) (m : Meaning) → IsAtRest d → IsShort (text_of v) → meaning d role.TransitionHead (text_of v) ≡ m → is_head m ≡ true → named role.TransitionHead m d ≡ e → Leads d (label v ∷ []) (Unit {0}) e
+head_path_by : (d e : Declared) (v : Token (terminal.Named role.TransitionHead)) (m : Meaning) → IsAtRest d → IsShort (text_of v) → meaning d role.TransitionHead (text_of v) ≡ m → is_head m ≡ true → named role.TransitionHead m d ≡ e → Path d (label v ∷ []) (Unit {0}) e
 unfolding adds
-head_leads_by d e v m rest s means h same = leads_by (terminal.Named role.TransitionHead) v.lexeme d e (Unit {0})
+head_path_by d e v m rest s means h same = path_by (terminal.Named role.TransitionHead) v.lexeme d e (Unit {0})
     (λ k. row-none (terminal.Named role.TransitionHead) d v.lexeme v.matched (arity_at_rest d v.lexeme rest) (is_expected (terminal.Named role.TransitionHead) d v.lexeme refl refl v.matched)
     (head_passed d (text_of v) m s means h rest.applications) (head_named d (text_of v) m means h))
     (λ k. tt)
@@ -75,14 +75,14 @@ module _ (a : Started) (l : Last) (resting : IsResting l) (d : Declared) (v : To
   there : (m : Meaning) → head_meaning d.symbols a.states (text_of v) ≡ m → meaning (put a (between l d)) role.TransitionHead (text_of v) ≡ m
   there m e = head_means (put a (between l d)) (text_of v) ∙ (ap (λ (b : Started). head_meaning d.symbols b.states (text_of v)) (current-put a (between l d)) ∙ e)
 
-  pub constant_head : (f : ℕ) → IsShort (text_of v) → head_meaning d.symbols a.states (text_of v) ≡ a_symbol f 0 → Leads (put a (between l d)) (label v ∷ []) (Unit {0}) (behind_head (symbol_head f) [] constant a d)
-  constant_head f s e = head_leads_by (put a (between l d)) (behind_head (symbol_head f) [] constant a d) v (a_symbol f 0) (put-at_rest a l d resting) s (there (a_symbol f 0) e) refl refl
+  pub constant_head : (f : ℕ) → IsShort (text_of v) → head_meaning d.symbols a.states (text_of v) ≡ a_symbol f 0 → Path (put a (between l d)) (label v ∷ []) (Unit {0}) (behind_head (symbol_head f) [] constant a d)
+  constant_head f s e = head_path_by (put a (between l d)) (behind_head (symbol_head f) [] constant a d) v (a_symbol f 0) (put-at_rest a l d resting) s (there (a_symbol f 0) e) refl refl
 
-  pub function_head : (f n : ℕ) → IsShort (text_of v) → head_meaning d.symbols a.states (text_of v) ≡ a_symbol f (suc n) → Leads (put a (between l d)) (label v ∷ []) (Unit {0}) (inside f (suc n) [] function a d)
-  function_head f n s e = head_leads_by (put a (between l d)) (inside f (suc n) [] function a d) v (a_symbol f (suc n)) (put-at_rest a l d resting) s (there (a_symbol f (suc n)) e) refl refl
+  pub function_head : (f n : ℕ) → IsShort (text_of v) → head_meaning d.symbols a.states (text_of v) ≡ a_symbol f (suc n) → Path (put a (between l d)) (label v ∷ []) (Unit {0}) (inside f (suc n) [] function a d)
+  function_head f n s e = head_path_by (put a (between l d)) (inside f (suc n) [] function a d) v (a_symbol f (suc n)) (put-at_rest a l d resting) s (there (a_symbol f (suc n)) e) refl refl
 
-  pub state_of_head : (q : ℕ) → IsShort (text_of v) → head_meaning d.symbols a.states (text_of v) ≡ a_state q → Leads (put a (between l d)) (label v ∷ []) (Unit {0}) (behind_head (state_head q) [] leaf a d)
-  state_of_head q s e = head_leads_by (put a (between l d)) (behind_head (state_head q) [] leaf a d) v (a_state q) (put-at_rest a l d resting) s (there (a_state q) e) refl refl
+  pub state_of_head : (q : ℕ) → IsShort (text_of v) → head_meaning d.symbols a.states (text_of v) ≡ a_state q → Path (put a (between l d)) (label v ∷ []) (Unit {0}) (behind_head (state_head q) [] leaf a d)
+  state_of_head q s e = head_path_by (put a (between l d)) (behind_head (state_head q) [] leaf a d) v (a_state q) (put-at_rest a l d resting) s (there (a_state q) e) refl refl
 
   pub no_head_here : head_meaning d.symbols a.states (text_of v) ≡ unknown → row (Some (terminal.Named role.TransitionHead)) (put a (between l d)) v.lexeme ≡ None → ⊥
   no_head_here e h = unknown_head (put a (between l d)) v.lexeme (there unknown e) h
@@ -104,9 +104,9 @@ arrow_arity : (h : Head) (args : List ℕ) (l : Last) (a : Started) (d : Declare
 unfolding wrong_arity
 arrow_arity h args l a d x e = or_from _ _ e refl
 
-pub arrow_leads : (h : Head) (args : List ℕ) (l : Last) → IsDone l → (a : Started) (d : Declared) (v : Token terminal.Arrow) → Leads (behind_head h args l a d) (label v ∷ []) (Unit {0}) (behind_head h args any a d)
+pub arrow_path : (h : Head) (args : List ℕ) (l : Last) → IsDone l → (a : Started) (d : Declared) (v : Token terminal.Arrow) → Path (behind_head h args l a d) (label v ∷ []) (Unit {0}) (behind_head h args any a d)
 unfolding adds
-arrow_leads h args l done a d v = leads_by terminal.Arrow v.lexeme (behind_head h args l a d) (behind_head h args any a d) (Unit {0})
+arrow_path h args l done a d v = path_by terminal.Arrow v.lexeme (behind_head h args l a d) (behind_head h args any a d) (Unit {0})
     (λ k. row-none terminal.Arrow (behind_head h args l a d) v.lexeme v.matched (arrow_arity h args l a d v.lexeme (done_after l v.lexeme done (no_opening terminal.Arrow v.lexeme refl v.matched)))
     (is_expected terminal.Arrow (behind_head h args l a d) v.lexeme refl refl v.matched) (passed_plain terminal.Arrow (text_of v) _ refl) (misnamed_plain terminal.Arrow (text_of v) _ refl))
     (λ k. tt)
@@ -119,9 +119,9 @@ target_same no_head args q a d = refl
 target_same (state_head p) args q a d = ap (λ (w : Declared). record w { head = no_head; head_args = []; last = leaf }) (changed (λ b. added (state_head p) args q b) a (record (between any d) { head = state_head p; head_args = args }))
 target_same (symbol_head f) args q a d = ap (λ (w : Declared). record w { head = no_head; head_args = []; last = leaf }) (changed (λ b. added (symbol_head f) args q b) a (record (between any d) { head = symbol_head f; head_args = args }))
 
-pub target_leads : (h : Head) (args : List ℕ) (a : Started) → All IsShort a.states → (d : Declared) (v : Token (terminal.Named role.TransitionTarget)) → Leads (behind_head h args any a d) (label v ∷ []) (Contains a.states (text_of v)) (put (added h args (place_in a.states (text_of v)) a) (between leaf d))
-target_leads h args a short d v =
-    use_leads role.TransitionTarget a (behind_head h args any a d) (put (added h args (place_in a.states (text_of v)) a) (between leaf d)) v refl (arrow_arity h args any a d v.lexeme refl) short
+pub target_path : (h : Head) (args : List ℕ) (a : Started) → All IsShort a.states → (d : Declared) (v : Token (terminal.Named role.TransitionTarget)) → Path (behind_head h args any a d) (label v ∷ []) (Contains a.states (text_of v)) (put (added h args (place_in a.states (text_of v)) a) (between leaf d))
+target_path h args a short d v =
+    use_path role.TransitionTarget a (behind_head h args any a d) (put (added h args (place_in a.states (text_of v)) a) (between leaf d)) v refl (arrow_arity h args any a d v.lexeme refl) short
     (current-put a (between any d)) (target_same h args (place_in a.states (text_of v)) a d)
 
 -- ---- another number of arguments

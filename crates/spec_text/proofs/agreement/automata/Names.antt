@@ -21,7 +21,7 @@ use Rattle.spec_text.proofs.agreement.tokens.Runs.{or-none, or_parts_none, when-
 use Rattle.spec_text.proofs.agreement.names.Rows.{IsResting, arity_at_rest, is_expected}
 use Rattle.spec_text.proofs.agreement.names.Texts.{position_found, Contains-position}
 use Rattle.spec_text.proofs.agreement.names.States.{between}
-use Rattle.spec_text.proofs.agreement.tokens.Paths.{Leads, leads_nowhere, leads_by, leads_on, leads_also, leads_behind, leads_before, plain_leads}
+use Rattle.spec_text.proofs.agreement.tokens.Paths.{Path, path_nowhere, path_by, path_on, path_also, path_behind, path_before, plain_path}
 use Rattle.spec_text.proofs.agreement.automata.States.{put, current-put, changed, put-at_rest}
 
 -- ---- the row at the name of a state
@@ -92,16 +92,16 @@ adds_state role.TransitionArgument text d e = refl
 adds_state role.TransitionTarget text d e = refl
 adds_state _ text d e = cc
 
-by_states : (p : Role) (d e : Declared) (v : Token (terminal.Named p)) → is_state_place p ≡ true → wrong_arity d v.lexeme ≡ false → All IsShort (current d).states → named p (a_state (place_in (current d).states (text_of v))) d ≡ e → Leads d (label v ∷ []) (Contains (current d).states (text_of v)) e
-by_states p d e v k a short same = leads_by (terminal.Named p) v.lexeme d e (Contains (current d).states (text_of v))
+by_states : (p : Role) (d e : Declared) (v : Token (terminal.Named p)) → is_state_place p ≡ true → wrong_arity d v.lexeme ≡ false → All IsShort (current d).states → named p (a_state (place_in (current d).states (text_of v))) d ≡ e → Path d (label v ∷ []) (Contains (current d).states (text_of v)) e
+by_states p d e v k a short same = path_by (terminal.Named p) v.lexeme d e (Contains (current d).states (text_of v))
     (λ h. used_state_row p d v.lexeme k v.matched a (All-contains IsShort (current d).states (text_of v) short h) h)
     (λ h. used_state p d v.lexeme k h)
     (λ h. adds_state p (text_of v) d k ∙ (ap (λ m. named p m d) (state_meaning p (text_of v) d k h) ∙ same))
 
 -- the name of a state of this automaton
-pub use_leads : (p : Role) (a : Started) (d e : Declared) (v : Token (terminal.Named p)) → is_state_place p ≡ true → wrong_arity d v.lexeme ≡ false → All IsShort a.states → current d ≡ a → named p (a_state (place_in a.states (text_of v))) d ≡ e → Leads d (label v ∷ []) (Contains a.states (text_of v)) e
-use_leads p a d e v k w short is same =
-    subst (λ (b : Started). All IsShort b.states → named p (a_state (place_in b.states (text_of v))) d ≡ e → Leads d (label v ∷ []) (Contains b.states (text_of v)) e) is
+pub use_path : (p : Role) (a : Started) (d e : Declared) (v : Token (terminal.Named p)) → is_state_place p ≡ true → wrong_arity d v.lexeme ≡ false → All IsShort a.states → current d ≡ a → named p (a_state (place_in a.states (text_of v))) d ≡ e → Path d (label v ∷ []) (Contains a.states (text_of v)) e
+use_path p a d e v k w short is same =
+    subst (λ (b : Started). All IsShort b.states → named p (a_state (place_in b.states (text_of v))) d ≡ e → Path d (label v ∷ []) (Contains b.states (text_of v)) e) is
     (by_states p d e v k w) short same
 
 -- ---- what is true of each of many parts
@@ -121,28 +121,28 @@ module _ (a : Started) (short : All IsShort a.states) where
   abbrev description_labels : List Description → List Label
   description_labels vs = flat_map (labelled (grammar.◌then◌ (grammar.name role.DescribedState) (grammar.◌then◌ (grammar.one terminal.Colon) (grammar.one terminal.Quoted)))) vs
 
-  one_description : (d : Declared) (v : Description) → Leads (put a (between any d)) (label v.0 ∷ label v.1.0 ∷ label v.1.1 ∷ []) (Contains a.states (text_of v.0)) (put a (between any d))
+  one_description : (d : Declared) (v : Description) → Path (put a (between any d)) (label v.0 ∷ label v.1.0 ∷ label v.1.1 ∷ []) (Contains a.states (text_of v.0)) (put a (between any d))
   unfolding adds
   one_description d v =
       let e = put a (between leaf d) in
       let f = put a (between any d) in
-      leads_behind f e f (label v.0 ∷ []) _ _
-      (use_leads role.DescribedState a f e v.0 refl (arity_at_rest f v.0.lexeme (put-at_rest a any d tt)) short (current-put a (between any d)) refl)
-      (leads_behind e f f (label v.1.0 ∷ []) (label v.1.1 ∷ []) _ (plain_leads terminal.Colon v.1.0 e f (put-at_rest a leaf d tt) refl refl refl) (plain_leads terminal.Quoted v.1.1 f f (put-at_rest a any d tt) refl refl refl))
+      path_behind f e f (label v.0 ∷ []) _ _
+      (use_path role.DescribedState a f e v.0 refl (arity_at_rest f v.0.lexeme (put-at_rest a any d tt)) short (current-put a (between any d)) refl)
+      (path_behind e f f (label v.1.0 ∷ []) (label v.1.1 ∷ []) _ (plain_path terminal.Colon v.1.0 e f (put-at_rest a leaf d tt) refl refl refl) (plain_path terminal.Quoted v.1.1 f f (put-at_rest a any d tt) refl refl refl))
 
-  descriptions_lead : (d : Declared) (vs : List Description) → Leads (put a (between any d)) (description_labels vs) (All (Contains a.states) (map (λ v. text_of v.0) vs)) (put a (between any d))
-  descriptions_lead d [] = leads_also _ _ _ [] (Unit {0}) _ (λ k. tt) (λ k. All-nil (Contains a.states)) (λ k. refl) (leads_nowhere (put a (between any d)))
-  descriptions_lead d (v ∷ vs) =
+  descriptions_path : (d : Declared) (vs : List Description) → Path (put a (between any d)) (description_labels vs) (All (Contains a.states) (map (λ v. text_of v.0) vs)) (put a (between any d))
+  descriptions_path d [] = path_also _ _ _ [] (Unit {0}) _ (λ k. tt) (λ k. All-nil (Contains a.states)) (λ k. refl) (path_nowhere (put a (between any d)))
+  descriptions_path d (v ∷ vs) =
       let f = put a (between any d) in
-      leads_also f f f _ _ _ (all_first (Contains a.states) (text_of v.0) _) (all_more (Contains a.states) (text_of v.0) _) (λ k. refl)
-      (leads_on f f f (label v.0 ∷ label v.1.0 ∷ label v.1.1 ∷ []) (description_labels vs) _ _ (one_description d v) (λ k. descriptions_lead d vs))
+      path_also f f f _ _ _ (all_first (Contains a.states) (text_of v.0) _) (all_more (Contains a.states) (text_of v.0) _) (λ k. refl)
+      (path_on f f f (label v.0 ∷ label v.1.0 ∷ label v.1.1 ∷ []) (description_labels vs) _ _ (one_description d v) (λ k. descriptions_path d vs))
 
-  pub described_lead : (d : Declared) (o : Option (Value grammar.description)) → Leads (put a (between any d)) (labelled (grammar.maybe grammar.description) o) (All (Contains a.states) (described_in o)) (put a (between any d))
+  pub described_path : (d : Declared) (o : Option (Value grammar.description)) → Path (put a (between any d)) (labelled (grammar.maybe grammar.description) o) (All (Contains a.states) (described_in o)) (put a (between any d))
   unfolding adds
-  described_lead d None = leads_also _ _ _ [] (Unit {0}) _ (λ k. tt) (λ k. All-nil (Contains a.states)) (λ k. refl) (leads_nowhere (put a (between any d)))
-  described_lead d (Some v) =
+  described_path d None = path_also _ _ _ [] (Unit {0}) _ (λ k. tt) (λ k. All-nil (Contains a.states)) (λ k. refl) (path_nowhere (put a (between any d)))
+  described_path d (Some v) =
       let f = put a (between any d) in
-      leads_before f f f (label v.0 ∷ []) _ _ (plain_leads terminal.Description v.0 f f (put-at_rest a any d tt) refl refl refl) (descriptions_lead d v.1)
+      path_before f f f (label v.0 ∷ []) _ _ (plain_path terminal.Description v.0 f f (put-at_rest a any d tt) refl refl refl) (descriptions_path d v.1)
 
 -- ---- final states
 
@@ -158,25 +158,25 @@ last_after-resting (x ∷ xs) l h = last_after-resting xs leaf tt
 abbrev with_final : ℕ → Started → Started
 with_final q a = record a { finals = a.finals ++ q ∷ [] }
 
-one_final : (a : Started) (short : All IsShort a.states) (l : Last) (resting : IsResting l) (d : Declared) (v : Token (terminal.Named role.FinalState)) → Leads (put a (between l d)) (label v ∷ []) (Contains a.states (text_of v)) (put (with_final (place_in a.states (text_of v)) a) (between leaf d))
+one_final : (a : Started) (short : All IsShort a.states) (l : Last) (resting : IsResting l) (d : Declared) (v : Token (terminal.Named role.FinalState)) → Path (put a (between l d)) (label v ∷ []) (Contains a.states (text_of v)) (put (with_final (place_in a.states (text_of v)) a) (between leaf d))
 one_final a short l resting d v =
-    use_leads role.FinalState a (put a (between l d)) (put (with_final (place_in a.states (text_of v)) a) (between leaf d)) v refl (arity_at_rest (put a (between l d)) v.lexeme (put-at_rest a l d resting)) short (current-put a (between l d))
+    use_path role.FinalState a (put a (between l d)) (put (with_final (place_in a.states (text_of v)) a) (between leaf d)) v refl (arity_at_rest (put a (between l d)) v.lexeme (put-at_rest a l d resting)) short (current-put a (between l d))
     (ap (λ (w : Declared). record w { last = leaf }) (changed (with_final (place_in a.states (text_of v))) a (between l d)))
 
 abbrev pub with_finals : List Text → Started → Started
 with_finals names a = record a { finals = a.finals ++ map (place_in a.states) names }
 
-finals_lead : (a : Started) (short : All IsShort a.states) (l : Last) (resting : IsResting l) (d : Declared) (vs : List (Token (terminal.Named role.FinalState))) → Leads (put a (between l d)) (flat_map (labelled (grammar.name role.FinalState)) vs) (All (Contains a.states) (map text_of vs)) (put (with_finals (map text_of vs) a) (between (last_after vs l) d))
-finals_lead a short l resting d [] = leads_also _ _ _ [] (Unit {0}) _ (λ k. tt) (λ k. All-nil (Contains a.states)) (λ k. ap (λ s. put (record a { finals = s }) (between l d)) (sym (append-nil a.finals))) (leads_nowhere (put a (between l d)))
-finals_lead a short l resting d (v ∷ vs) =
-    leads_also _ _ _ _ _ _ (all_first (Contains a.states) (text_of v) _) (all_more (Contains a.states) (text_of v) _)
+finals_path : (a : Started) (short : All IsShort a.states) (l : Last) (resting : IsResting l) (d : Declared) (vs : List (Token (terminal.Named role.FinalState))) → Path (put a (between l d)) (flat_map (labelled (grammar.name role.FinalState)) vs) (All (Contains a.states) (map text_of vs)) (put (with_finals (map text_of vs) a) (between (last_after vs l) d))
+finals_path a short l resting d [] = path_also _ _ _ [] (Unit {0}) _ (λ k. tt) (λ k. All-nil (Contains a.states)) (λ k. ap (λ s. put (record a { finals = s }) (between l d)) (sym (append-nil a.finals))) (path_nowhere (put a (between l d)))
+finals_path a short l resting d (v ∷ vs) =
+    path_also _ _ _ _ _ _ (all_first (Contains a.states) (text_of v) _) (all_more (Contains a.states) (text_of v) _)
     (λ k. ap (λ s. put (record a { finals = s }) (between (last_after vs leaf) d)) (append_assoc a.finals (place_in a.states (text_of v) ∷ []) (map (place_in a.states) (map text_of vs))))
-    (leads_on _ _ _ (label v ∷ []) (flat_map (labelled (grammar.name role.FinalState)) vs) _ _ (one_final a short l resting d v) (λ k. finals_lead (with_final (place_in a.states (text_of v)) a) short leaf tt d vs))
+    (path_on _ _ _ (label v ∷ []) (flat_map (labelled (grammar.name role.FinalState)) vs) _ _ (one_final a short l resting d v) (λ k. finals_path (with_final (place_in a.states (text_of v)) a) short leaf tt d vs))
 
-pub final_states_lead : (a : Started) (short : All IsShort a.states) (d : Declared) (v : Value grammar.final_states) → Leads (put a (between any d)) (labelled grammar.final_states v) (All (Contains a.states) (finals_in v)) (put (with_finals (finals_in v) a) (between (last_after v.1.1 any) d))
+pub final_states_path : (a : Started) (short : All IsShort a.states) (d : Declared) (v : Value grammar.final_states) → Path (put a (between any d)) (labelled grammar.final_states v) (All (Contains a.states) (finals_in v)) (put (with_finals (finals_in v) a) (between (last_after v.1.1 any) d))
 unfolding adds
-final_states_lead a short d v =
+final_states_path a short d v =
     let f = put a (between any d) in
-    leads_before f f _ (label v.0 ∷ []) _ _ (plain_leads terminal.Final v.0 f f (put-at_rest a any d tt) refl refl refl)
-    (leads_before f f _ (label v.1.0 ∷ []) _ _ (plain_leads terminal.States v.1.0 f f (put-at_rest a any d tt) refl refl refl)
-    (finals_lead a short any tt d v.1.1))
+    path_before f f _ (label v.0 ∷ []) _ _ (plain_path terminal.Final v.0 f f (put-at_rest a any d tt) refl refl refl)
+    (path_before f f _ (label v.1.0 ∷ []) _ _ (plain_path terminal.States v.1.0 f f (put-at_rest a any d tt) refl refl refl)
+    (finals_path a short any tt d v.1.1))

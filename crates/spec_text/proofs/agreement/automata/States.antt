@@ -14,7 +14,7 @@ use Rattle.spec_text.proofs.agreement.tokens.Labels.{label, labelled}
 use Rattle.spec_text.proofs.agreement.names.Rows.{IsResting, IsAtRest, IsNew, state_row, new_state}
 use Rattle.spec_text.proofs.agreement.names.Texts.{IsNew-middle, AreNewNames-push}
 use Rattle.spec_text.proofs.agreement.names.States.{between}
-use Rattle.spec_text.proofs.agreement.tokens.Paths.{Leads, leads_nowhere, leads_by, leads_on, leads_also, leads_behind, plain_leads}
+use Rattle.spec_text.proofs.agreement.tokens.Paths.{Path, path_nowhere, path_by, path_on, path_also, path_behind, plain_path}
 
 -- ---- the automaton that is declared last
 
@@ -69,36 +69,36 @@ new_there a d l name =
       λ h. subst (λ t. IsNew t (length a.states) 16384 name) (sym s) (subst (λ (b : Started). IsNew (names_of d.symbols ++ (d.variables ++ b.states)) (length b.states) 16384 name) e h),
     )
 
-one_state : (a : Started) (d : Declared) (v : Token (terminal.Named role.State)) → Leads (put a (between any d)) (label v ∷ []) (IsNew (taken_by d ++ a.states) (length a.states) 16384 (text_of v)) (put (with_state (text_of v) a) (between any d))
+one_state : (a : Started) (d : Declared) (v : Token (terminal.Named role.State)) → Path (put a (between any d)) (label v ∷ []) (IsNew (taken_by d ++ a.states) (length a.states) 16384 (text_of v)) (put (with_state (text_of v) a) (between any d))
 unfolding adds
-one_state a d v = leads_by (terminal.Named role.State) v.lexeme (put a (between any d)) (put (with_state (text_of v) a) (between any d)) _
+one_state a d v = path_by (terminal.Named role.State) v.lexeme (put a (between any d)) (put (with_state (text_of v) a) (between any d)) _
     (λ h. state_row (put a (between any d)) v.lexeme (put-at_rest a any d tt) v.matched ((new_there a d any (text_of v)).0 h))
     (λ h. (new_there a d any (text_of v)).1 (new_state (put a (between any d)) v.lexeme h))
     (λ h. ap (λ (w : Declared). record w { last = any }) (changed (with_state (text_of v)) a (between any d)))
 
-with_zero : (d : Declared) (o : Value (grammar.maybe (grammar.◌then◌ (grammar.one terminal.Colon) (grammar.one terminal.Zero)))) → IsAtRest d → record d { last = any } ≡ d → Leads d (labelled (grammar.maybe (grammar.◌then◌ (grammar.one terminal.Colon) (grammar.one terminal.Zero))) o) (Unit {0}) d
+with_zero : (d : Declared) (o : Value (grammar.maybe (grammar.◌then◌ (grammar.one terminal.Colon) (grammar.one terminal.Zero)))) → IsAtRest d → record d { last = any } ≡ d → Path d (labelled (grammar.maybe (grammar.◌then◌ (grammar.one terminal.Colon) (grammar.one terminal.Zero))) o) (Unit {0}) d
 unfolding adds
-with_zero d None rest same = leads_nowhere d
+with_zero d None rest same = path_nowhere d
 with_zero d (Some v) rest same =
-    leads_behind d d d (label v.0 ∷ []) (label v.1 ∷ []) (Unit {0}) (plain_leads terminal.Colon v.0 d d rest refl refl same) (plain_leads terminal.Zero v.1 d d rest refl refl same)
+    path_behind d d d (label v.0 ∷ []) (label v.1 ∷ []) (Unit {0}) (plain_path terminal.Colon v.0 d d rest refl refl same) (plain_path terminal.Zero v.1 d d rest refl refl same)
 
-state_leads : (a : Started) (d : Declared) (v : Value (grammar.state role.State)) → Leads (put a (between any d)) (labelled (grammar.state role.State) v) (IsNew (taken_by d ++ a.states) (length a.states) 16384 (state_of v)) (put (with_state (state_of v) a) (between any d))
-state_leads a d v =
+state_path : (a : Started) (d : Declared) (v : Value (grammar.state role.State)) → Path (put a (between any d)) (labelled (grammar.state role.State) v) (IsNew (taken_by d ++ a.states) (length a.states) 16384 (state_of v)) (put (with_state (state_of v) a) (between any d))
+state_path a d v =
     let e = put (with_state (state_of v) a) (between any d) in
-    leads_behind (put a (between any d)) e e (label v.0 ∷ []) _ _ (one_state a d v.0) (with_zero e v.1 (put-at_rest (with_state (state_of v) a) any d tt) refl)
+    path_behind (put a (between any d)) e e (label v.0 ∷ []) _ _ (one_state a d v.0) (with_zero e v.1 (put-at_rest (with_state (state_of v) a) any d tt) refl)
 
 -- ---- the states of an automaton
 
 abbrev pub with_states : List Text → Started → Started
 with_states names a = record a { states = a.states ++ names }
 
-pub states_lead : (a : Started) (d : Declared) (vs : List (Value (grammar.state role.State))) → AreNewNames (taken_by d) 16384 a.states → Leads (put a (between any d)) (flat_map (labelled (grammar.state role.State)) vs) (AreNewNames (taken_by d) 16384 (a.states ++ map state_of vs)) (put (with_states (map state_of vs) a) (between any d))
-states_lead a d [] h = leads_also _ _ _ [] (Unit {0}) _ (λ k. tt) (λ k. subst (AreNewNames (taken_by d) 16384) (sym (append-nil a.states)) h) (λ k. ap (λ s. put (record a { states = s }) (between any d)) (sym (append-nil a.states))) (leads_nowhere (put a (between any d)))
-states_lead a d (v ∷ vs) h =
+pub states_path : (a : Started) (d : Declared) (vs : List (Value (grammar.state role.State))) → AreNewNames (taken_by d) 16384 a.states → Path (put a (between any d)) (flat_map (labelled (grammar.state role.State)) vs) (AreNewNames (taken_by d) 16384 (a.states ++ map state_of vs)) (put (with_states (map state_of vs) a) (between any d))
+states_path a d [] h = path_also _ _ _ [] (Unit {0}) _ (λ k. tt) (λ k. subst (AreNewNames (taken_by d) 16384) (sym (append-nil a.states)) h) (λ k. ap (λ s. put (record a { states = s }) (between any d)) (sym (append-nil a.states))) (path_nowhere (put a (between any d)))
+states_path a d (v ∷ vs) h =
     let s = append_assoc a.states (state_of v ∷ []) (map state_of vs) in
-    leads_also _ _ _ _ (IsNew (taken_by d ++ a.states) (length a.states) 16384 (state_of v) × AreNewNames (taken_by d) 16384 ((a.states ++ state_of v ∷ []) ++ map state_of vs)) _
+    path_also _ _ _ _ (IsNew (taken_by d ++ a.states) (length a.states) 16384 (state_of v) × AreNewNames (taken_by d) 16384 ((a.states ++ state_of v ∷ []) ++ map state_of vs)) _
     (λ k. (IsNew-middle (taken_by d) 16384 a.states (map state_of vs) (state_of v) k, subst (AreNewNames (taken_by d) 16384) (sym s) k))
     (λ k. subst (AreNewNames (taken_by d) 16384) s k.1)
     (λ k. ap (λ t. put (record a { states = t }) (between any d)) s)
-    (leads_on _ _ _ (labelled (grammar.state role.State) v) (flat_map (labelled (grammar.state role.State)) vs) _ _ (state_leads a d v)
-    (λ new. states_lead (with_state (state_of v) a) d vs (AreNewNames-push (taken_by d) 16384 a.states (state_of v) h new)))
+    (path_on _ _ _ (labelled (grammar.state role.State) v) (flat_map (labelled (grammar.state role.State)) vs) _ _ (state_path a d v)
+    (λ new. states_path (with_state (state_of v) a) d vs (AreNewNames-push (taken_by d) 16384 a.states (state_of v) h new)))

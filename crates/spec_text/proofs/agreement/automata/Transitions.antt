@@ -18,10 +18,10 @@ use Rattle.spec_text.proofs.agreement.tokens.Labels.{Label, label, labelled}
 use Rattle.spec_text.proofs.agreement.names.Rows.{IsResting}
 use Rattle.spec_text.proofs.agreement.names.Texts.{is_in-from_Contains, Contains-from_is_in, position_found, position_absent, Contains-position, arity_found}
 use Rattle.spec_text.proofs.agreement.names.States.{between}
-use Rattle.spec_text.proofs.agreement.tokens.Paths.{Leads, leads_on, leads_also, leads_not, leads_before}
+use Rattle.spec_text.proofs.agreement.tokens.Paths.{Path, path_on, path_also, path_not, path_before}
 use Rattle.spec_text.proofs.agreement.automata.States.{put}
-use Rattle.spec_text.proofs.agreement.automata.Heads.{places, behind_head, inside, added, arguments_lead}
-use Rattle.spec_text.proofs.agreement.automata.Arrows.{head_meaning, constant_head, function_head, state_of_head, no_head_here, arrow_leads, target_leads, paren_behind_state, paren_behind_constant, arrow_behind_function}
+use Rattle.spec_text.proofs.agreement.automata.Heads.{places, behind_head, inside, added, arguments_path}
+use Rattle.spec_text.proofs.agreement.automata.Arrows.{head_meaning, constant_head, function_head, state_of_head, no_head_here, arrow_path, target_path, paren_behind_state, paren_behind_constant, arrow_behind_function}
 
 -- ---- what transitions add
 
@@ -148,45 +148,45 @@ module _ (a : Started) (short : All IsShort a.states) (d : Declared) (short_symb
 
   module _ (l : Last) (resting : IsResting l) where
     abbrev Result : Value grammar.transition → Type 0
-    Result v = Leads (put a (between l d)) (labelled grammar.transition v) (Fine (transition_of v)) (put (grown d.symbols (transition_of v ∷ []) a) (between leaf d))
+    Result v = Path (put a (between l d)) (labelled grammar.transition v) (Fine (transition_of v)) (put (grown d.symbols (transition_of v ∷ []) a) (between leaf d))
 
     by_constant : (f : ℕ) (v : Value grammar.transition) → number_of d.symbols (text_of v.0) ≡ Some f → arity_of d.symbols f ≡ Some 0 → Result v
     by_constant f (h, (None, (w, t))) e k =
         let b = behind_head (symbol_head f) [] constant a d in
         let c = behind_head (symbol_head f) [] any a d in
         let ends = put (added (symbol_head f) [] (place_in a.states (text_of t)) a) (between leaf d) in
-        leads_also (put a (between l d)) ends _ _ (Contains a.states (text_of t)) _ target_is (λ x. by_symbol e k (All-nil (Contains a.states)) x)
+        path_also (put a (between l d)) ends _ _ (Contains a.states (text_of t)) _ target_is (λ x. by_symbol e k (All-nil (Contains a.states)) x)
         (λ x. ap (λ s. put s (between leaf d)) (grown_symbol d.symbols a (transition_of (h, (None, (w, t)))) f e))
-        (leads_before (put a (between l d)) b ends (label h ∷ []) _ _ (constant_head a l resting d h f (symbol_short (text_of h) f e) (means_symbol (text_of h) f 0 e k))
-        (leads_before b c ends (label w ∷ []) (label t ∷ []) _ (arrow_leads (symbol_head f) [] constant tt a d w) (target_leads (symbol_head f) [] a short d t)))
+        (path_before (put a (between l d)) b ends (label h ∷ []) _ _ (constant_head a l resting d h f (symbol_short (text_of h) f e) (means_symbol (text_of h) f 0 e k))
+        (path_before b c ends (label w ∷ []) (label t ∷ []) _ (arrow_path (symbol_head f) [] constant tt a d w) (target_path (symbol_head f) [] a short d t)))
     by_constant f (h, (Some args, (w, t))) e k =
         let b = behind_head (symbol_head f) [] constant a d in
         let whole = transition_of (h, (Some args, (w, t))) in
         let no : Fine whole → ⊥ = λ x. omega (arith, count_is whole f 0 e k x) in
-        leads_also (put a (between l d)) b _ _ (Unit {0} × ⊥) _ (λ x. absurd (no x)) (λ x. absurd x.1) (λ x. absurd (no x))
-        (leads_on (put a (between l d)) b b (label h ∷ []) (behind args w t) _ _ (constant_head a l resting d h f (symbol_short (text_of h) f e) (means_symbol (text_of h) f 0 e k))
-        (λ x. leads_not b b (behind args w t) ⊥ (λ z. z) (λ z. paren_behind_constant f a d args.0 z.0)))
+        path_also (put a (between l d)) b _ _ (Unit {0} × ⊥) _ (λ x. absurd (no x)) (λ x. absurd x.1) (λ x. absurd (no x))
+        (path_on (put a (between l d)) b b (label h ∷ []) (behind args w t) _ _ (constant_head a l resting d h f (symbol_short (text_of h) f e) (means_symbol (text_of h) f 0 e k))
+        (λ x. path_not b b (behind args w t) ⊥ (λ z. z) (λ z. paren_behind_constant f a d args.0 z.0)))
 
     by_function : (f n : ℕ) (v : Value grammar.transition) → number_of d.symbols (text_of v.0) ≡ Some f → arity_of d.symbols f ≡ Some (suc n) → Result v
     by_function f n (h, (None, (w, t))) e k =
         let b = inside f (suc n) [] function a d in
         let whole = transition_of (h, (None, (w, t))) in
         let no : Fine whole → ⊥ = λ x. omega (arith, count_is whole f (suc n) e k x) in
-        leads_also (put a (between l d)) b _ _ (Unit {0} × ⊥) _ (λ x. absurd (no x)) (λ x. absurd x.1) (λ x. absurd (no x))
-        (leads_on (put a (between l d)) b b (label h ∷ []) _ _ _ (function_head a l resting d h f n (symbol_short (text_of h) f e) (means_symbol (text_of h) f (suc n) e k))
-        (λ x. leads_not b b (label w ∷ label t ∷ []) ⊥ (λ z. z) (λ z. arrow_behind_function f (suc n) a d w z.0)))
+        path_also (put a (between l d)) b _ _ (Unit {0} × ⊥) _ (λ x. absurd (no x)) (λ x. absurd x.1) (λ x. absurd (no x))
+        (path_on (put a (between l d)) b b (label h ∷ []) _ _ _ (function_head a l resting d h f n (symbol_short (text_of h) f e) (means_symbol (text_of h) f (suc n) e k))
+        (λ x. path_not b b (label w ∷ label t ∷ []) ⊥ (λ z. z) (λ z. arrow_behind_function f (suc n) a d w z.0)))
     by_function f n (h, (Some args, (w, t))) e k =
         let whole = transition_of (h, (Some args, (w, t))) in
         let b = inside f (suc n) [] function a d in
         let c = behind_head (symbol_head f) (places a whole.args) any a d in
         let ends = put (added (symbol_head f) (places a whole.args) (place_in a.states (text_of t)) a) (between leaf d) in
-        leads_also (put a (between l d)) ends _ _ ((All (Contains a.states) whole.args × (length whole.args ≡ suc n)) × Contains a.states (text_of t)) _
+        path_also (put a (between l d)) ends _ _ ((All (Contains a.states) whole.args × (length whole.args ≡ suc n)) × Contains a.states (text_of t)) _
         (λ x. ((args_are x, count_is whole f (suc n) e k x), target_is x))
         (λ x. by_symbol e (k ∙ ap Some (sym x.0.1)) x.0.0 x.1)
         (λ x. ap (λ s. put s (between leaf d)) (grown_symbol d.symbols a whole f e))
-        (leads_before (put a (between l d)) b ends (label h ∷ []) _ _ (function_head a l resting d h f n (symbol_short (text_of h) f e) (means_symbol (text_of h) f (suc n) e k))
-        (leads_on b c ends (labelled (grammar.arguments (grammar.name role.TransitionArgument)) (Some args)) (label w ∷ label t ∷ []) _ _ (arguments_lead a short d f n args)
-        (λ x. leads_before c c ends (label w ∷ []) (label t ∷ []) _ (arrow_leads (symbol_head f) (places a whole.args) any tt a d w) (target_leads (symbol_head f) (places a whole.args) a short d t))))
+        (path_before (put a (between l d)) b ends (label h ∷ []) _ _ (function_head a l resting d h f n (symbol_short (text_of h) f e) (means_symbol (text_of h) f (suc n) e k))
+        (path_on b c ends (labelled (grammar.arguments (grammar.name role.TransitionArgument)) (Some args)) (label w ∷ label t ∷ []) _ _ (arguments_path a short d f n args)
+        (λ x. path_before c c ends (label w ∷ []) (label t ∷ []) _ (arrow_path (symbol_head f) (places a whole.args) any tt a d w) (target_path (symbol_head f) (places a whole.args) a short d t))))
 
     by_state_head : (v : Value grammar.transition) → number_of d.symbols (text_of v.0) ≡ None → Contains a.states (text_of v.0) → Result v
     by_state_head (h, (None, (w, t))) e k =
@@ -195,23 +195,23 @@ module _ (a : Started) (short : All IsShort a.states) (d : Declared) (short_symb
         let b = behind_head (state_head q) [] leaf a d in
         let c = behind_head (state_head q) [] any a d in
         let ends = put (added (state_head q) [] (place_in a.states (text_of t)) a) (between leaf d) in
-        leads_also (put a (between l d)) ends _ _ (Contains a.states (text_of t)) _ target_is (λ x. by_state k refl x)
+        path_also (put a (between l d)) ends _ _ (Contains a.states (text_of t)) _ target_is (λ x. by_state k refl x)
         (λ x. ap (λ s. put s (between leaf d)) (grown_state d.symbols a whole e))
-        (leads_before (put a (between l d)) b ends (label h ∷ []) _ _ (state_of_head a l resting d h q (All-contains IsShort a.states (text_of h) short k) (means_state (text_of h) e k))
-        (leads_before b c ends (label w ∷ []) (label t ∷ []) _ (arrow_leads (state_head q) [] leaf tt a d w) (target_leads (state_head q) [] a short d t)))
+        (path_before (put a (between l d)) b ends (label h ∷ []) _ _ (state_of_head a l resting d h q (All-contains IsShort a.states (text_of h) short k) (means_state (text_of h) e k))
+        (path_before b c ends (label w ∷ []) (label t ∷ []) _ (arrow_path (state_head q) [] leaf tt a d w) (target_path (state_head q) [] a short d t)))
     by_state_head (h, (Some args, (w, t))) e k =
         let whole = transition_of (h, (Some args, (w, t))) in
         let q = place_in a.states (text_of h) in
         let b = behind_head (state_head q) [] leaf a d in
         let no : Fine whole → ⊥ = λ x. let z = none_is whole e x in cc in
-        leads_also (put a (between l d)) b _ _ (Unit {0} × ⊥) _ (λ x. absurd (no x)) (λ x. absurd x.1) (λ x. absurd (no x))
-        (leads_on (put a (between l d)) b b (label h ∷ []) (behind args w t) _ _ (state_of_head a l resting d h q (All-contains IsShort a.states (text_of h) short k) (means_state (text_of h) e k))
-        (λ x. leads_not b b (behind args w t) ⊥ (λ z. z) (λ z. paren_behind_state q a d args.0 z.0)))
+        path_also (put a (between l d)) b _ _ (Unit {0} × ⊥) _ (λ x. absurd (no x)) (λ x. absurd x.1) (λ x. absurd (no x))
+        (path_on (put a (between l d)) b b (label h ∷ []) (behind args w t) _ _ (state_of_head a l resting d h q (All-contains IsShort a.states (text_of h) short k) (means_state (text_of h) e k))
+        (λ x. path_not b b (behind args w t) ⊥ (λ z. z) (λ z. paren_behind_state q a d args.0 z.0)))
 
     by_nothing : (v : Value grammar.transition) → number_of d.symbols (text_of v.0) ≡ None → is_in a.states (text_of v.0) ≡ false → Result v
     by_nothing v e k =
         let no : Fine (transition_of v) → ⊥ = λ x. true≢false (sym (is_in-from_Contains a.states (text_of v.0) (head_is (transition_of v) e x)) ∙ k) in
-        leads_not (put a (between l d)) _ _ _ no (λ z. no_head_here a l resting d v.0 (means_nothing (text_of v.0) e k) z.0)
+        path_not (put a (between l d)) _ _ _ no (λ z. no_head_here a l resting d v.0 (means_nothing (text_of v.0) e k) z.0)
 
     by_arity : (f k : ℕ) (v : Value grammar.transition) → number_of d.symbols (text_of v.0) ≡ Some f → arity_of d.symbols f ≡ Some k → Result v
     by_arity f zero v e h = by_constant f v e h
@@ -225,5 +225,5 @@ module _ (a : Started) (short : All IsShort a.states) (d : Declared) (short_symb
     by_number v None e = by_name v (is_in a.states (text_of v.0)) e refl
     by_number v (Some f) e = by_arity f (unwrap_or (arity_of d.symbols f) 0) v e (arity_found d.symbols (text_of v.0) f e)
 
-    pub transition_leads : (v : Value grammar.transition) → Leads (put a (between l d)) (labelled grammar.transition v) (IsTransition d.symbols a.states (transition_of v)) (put (grown d.symbols (transition_of v ∷ []) a) (between leaf d))
-    transition_leads v = by_number v (number_of d.symbols (text_of v.0)) refl
+    pub transition_path : (v : Value grammar.transition) → Path (put a (between l d)) (labelled grammar.transition v) (IsTransition d.symbols a.states (transition_of v)) (put (grown d.symbols (transition_of v ∷ []) a) (between leaf d))
+    transition_path v = by_number v (number_of d.symbols (text_of v.0)) refl

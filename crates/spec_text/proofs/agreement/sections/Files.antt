@@ -19,13 +19,13 @@ use Rattle.spec_text.specs.Reading.{settled as calm}
 use Rattle.spec_text.proofs.agreement.tokens.Last.{forgets}
 use Rattle.spec_text.proofs.agreement.tokens.Runs.{when-false, when_none}
 use Rattle.spec_text.proofs.agreement.names.Texts.{AreSymbols-nil, AreNewNames-nil}
-use Rattle.spec_text.proofs.agreement.names.Heads.{with_symbols, with_variables, maybe_ops_lead, maybe_vars_lead}
+use Rattle.spec_text.proofs.agreement.names.Heads.{with_symbols, with_variables, maybe_ops_path, maybe_vars_path}
 use Rattle.spec_text.proofs.agreement.automata.Specs.{symbols_short}
 use Rattle.spec_text.proofs.agreement.tokens.Exact.{reads, Whatever, IsTied, in_turn}
 use Rattle.spec_text.proofs.agreement.approximation.Section.{closed}
 use Rattle.spec_text.proofs.agreement.approximation.Wholes.{patterns_are_tied}
 use Rattle.spec_text.proofs.agreement.sections.Parts.{parts_of}
-use Rattle.spec_text.proofs.agreement.sections.One.{ok_below, leads_tied}
+use Rattle.spec_text.proofs.agreement.sections.One.{ok_below, path_tied}
 use Rattle.spec_text.proofs.agreement.sections.States.{Sides, some_there, there_are_some, AreRead, closed_at, spelled_at}
 use Rattle.spec_text.proofs.agreement.sections.Many.{AreOrderly, labelled_sections, sections_fine, sections_only}
 use Rattle.spec_text.proofs.agreement.sections.Spells.{spelled_by, IsReadAs, spells}
@@ -97,8 +97,8 @@ module _ (end : End) (v : Value grammar.file) where
   pub front_tied : IsTied end Whatever nothing (labelled (grammar.maybe grammar.ops) v.0 ++ labelled (grammar.maybe grammar.vars) v.1.0) ((w : AreSymbols (symbols_in v.0)) × AreNewNames (names_of symbols) 1024 variables) (λ w. behind_variables)
   front_tied =
       let d = with_symbols (symbols_in v.0) nothing in
-      in_turn (leads_tied end nothing (closed d) (labelled (grammar.maybe grammar.ops) v.0) (AreSymbols (symbols_in v.0)) (maybe_ops_lead nothing [] v.0 refl AreSymbols-nil))
-      (λ w. leads_tied end (closed d) behind_variables (labelled (grammar.maybe grammar.vars) v.1.0) (AreNewNames (names_of symbols) 1024 variables) (maybe_vars_lead d v.1.0 (AreNewNames-nil (names_of symbols) 1024 w.distinct)))
+      in_turn (path_tied end nothing (closed d) (labelled (grammar.maybe grammar.ops) v.0) (AreSymbols (symbols_in v.0)) (maybe_ops_path nothing [] v.0 refl AreSymbols-nil))
+      (λ w. path_tied end (closed d) behind_variables (labelled (grammar.maybe grammar.vars) v.1.0) (AreNewNames (names_of symbols) 1024 variables) (maybe_vars_path d v.1.0 (AreNewNames-nil (names_of symbols) 1024 w.distinct)))
 
   pub labels_are : labelled grammar.file v ≡ (labelled (grammar.maybe grammar.ops) v.0 ++ labelled (grammar.maybe grammar.vars) v.1.0) ++ (labelled_sections v.1.1 ++ [])
   labels_are =

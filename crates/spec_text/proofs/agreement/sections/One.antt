@@ -27,9 +27,9 @@ use Rattle.spec_text.proofs.agreement.rules.Equations.{EquationShape, equations_
 use Rattle.spec_text.proofs.agreement.tokens.Runs.{when-false, when_none, row_parts}
 use Rattle.spec_text.proofs.agreement.names.Rows.{IsResting, row_at_rest, misnamed_plain}
 use Rattle.spec_text.proofs.agreement.names.States.{between}
-use Rattle.spec_text.proofs.agreement.tokens.Paths.{Leads, leads-fine, leads-only}
+use Rattle.spec_text.proofs.agreement.tokens.Paths.{Path, path-fine, path-only}
 use Rattle.spec_text.proofs.agreement.automata.States.{put}
-use Rattle.spec_text.proofs.agreement.automata.Section.{IsAllowedAutomaton, started_by, next_automaton, last_of, last_of-resting, automaton_leads}
+use Rattle.spec_text.proofs.agreement.automata.Section.{IsAllowedAutomaton, started_by, next_automaton, last_of, last_of-resting, automaton_path}
 use Rattle.spec_text.proofs.agreement.tokens.Exact.{reads, Whatever, IsTied, one_token, in_turn}
 use Rattle.spec_text.proofs.agreement.approximation.Section.{closed, title_tied, rules_word_tied}
 
@@ -154,14 +154,14 @@ pub ok_below : (o : Outcome) (e : Declared) → calm o ≡ Ok e → (c : Declare
 ok_below (Ok c) e h = (c, refl)
 ok_below (Err f) e h = cc
 
--- what leads somewhere is told exactly
-pub leads_tied : (end : End) (d e : Declared) (xs : List Label) (P : Type 0) → Leads d xs P e → IsTied end Whatever d xs P (λ w. e)
-leads_tied end d e xs P leads = record {
-  fine = λ w rest k. ap calm (leads-fine end d e xs rest P leads w);
+-- a path says exactly what is declared
+pub path_tied : (end : End) (d e : Declared) (xs : List Label) (P : Type 0) → Path d xs P e → IsTied end Whatever d xs P (λ w. e)
+path_tied end d e xs P leads = record {
+  fine = λ w rest k. ap calm (path-fine end d e xs rest P leads w);
   only = λ rest o k h.
       let b = ok_below (judge end d (xs ++ rest)) o h in
-      let w = leads-only end d e xs rest P b.0 leads b.1 in
-      (w, sym (ap calm (leads-fine end d e xs rest P leads w)) ∙ h);
+      let w = path-only end d e xs rest P b.0 leads b.1 in
+      (w, sym (ap calm (path-fine end d e xs rest P leads w)) ∙ h);
 }
 
 resting_quiet : (l : Last) → IsResting l → IsQuiet l
@@ -178,7 +178,7 @@ module _ (end : End) (d : Declared) (distinct : IsDistinct bytes_eq (names_of d.
   automaton_tied =
       let l = last_of v in
       let s = put (started_by d.symbols (automaton_of v)) (between l (next_automaton d)) in
-      let tied = leads_tied end (closed d) s (labelled grammar.automaton v) (IsAllowedAutomaton d (automaton_of v)) (automaton_leads d distinct short_symbols fresh any tt v) in
+      let tied = path_tied end (closed d) s (labelled grammar.automaton v) (IsAllowedAutomaton d (automaton_of v)) (automaton_path d distinct short_symbols fresh any tt v) in
       let calmed = λ (rest : List Label) (k : NotOpening rest). calm_judge end s rest (resting_quiet l (last_of-resting v)) k in
       record {
         fine = λ w rest k. tied.fine w rest tt ∙ calmed rest k;

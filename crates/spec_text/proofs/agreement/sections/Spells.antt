@@ -17,7 +17,8 @@ use Rattle.spec_text.proofs.agreement.rules.Rules.{rule_sides}
 use Rattle.spec_text.proofs.agreement.rules.Equations.{equation_sides}
 use Rattle.spec_text.proofs.agreement.automata.Section.{started_by}
 use Rattle.spec_text.proofs.agreement.automata.Specs.{IsStartedBy, started_by-is, automaton_from, automaton_to, bare-none, none-bare}
-use Rattle.spec_text.proofs.agreement.sections.Parts.{parts_of, initial_states, IsDeclarable}
+use Rattle.spec_text.proofs.agreement.sections.Parts.{parts_of, initial_states}
+use Rattle.spec_text.proofs.agreement.sections.Allowed.{IsDeclarable}
 use Rattle.spec_text.proofs.agreement.sections.One.{AreRuleSides, AreEquationSides}
 use Rattle.spec_text.proofs.agreement.sections.States.{Sides, initial_of, second_of, names_of_sides, AreSpelled, AreRead, closed_at, spelled_at}
 use Rattle.spec_text.proofs.agreement.sections.Many.{AreOrderly}
@@ -111,7 +112,7 @@ module _ (symbols : List Symbol) (variables : List Text) where
 abbrev pub symbols_of : Source → List Symbol
 symbols_of source = signature_of source.symbols
 
--- a source that spells a spec, told by its sections
+-- a source that spells a spec, by its sections
 pub record IsSpelledBy (source : Source) (spec : Spec) : Type 0 where
   pub symbols : AreSymbols source.symbols
   pub variables : AreNewNames (names_of (symbols_of source)) 1024 source.variables

@@ -29,7 +29,8 @@ use Rattle.spec_text.proofs.agreement.automata.Section.{IsAllowedAutomaton, star
 use Rattle.spec_text.proofs.agreement.tokens.Exact.{reads, reads_row}
 use Rattle.spec_text.proofs.agreement.approximation.Rows.{AreShort}
 use Rattle.spec_text.proofs.agreement.approximation.Section.{closed, PatternsAreTied, with_approximation, approximation_tied}
-use Rattle.spec_text.proofs.agreement.sections.Parts.{Parts, with_section, IsLate, initial_states, extra_of, AreAllowed, push_system, push_equations, push_automaton, push_approximation, pop_system, pop_equations, pop_automaton, pop_approximation, first_states, no_approximation}
+use Rattle.spec_text.proofs.agreement.sections.Parts.{Parts, with_section, IsLate, initial_states, extra_of, first_states, no_approximation}
+use Rattle.spec_text.proofs.agreement.sections.Allowed.{AreAllowed, push_system, push_equations, push_automaton, push_approximation, pop_system, pop_equations, pop_automaton, pop_approximation}
 use Rattle.spec_text.proofs.agreement.sections.One.{AreRuleSides, AreEquationSides, with_system, with_equations_section, system_fine, system_only, equations_section_fine, equations_section_only, automaton_tied}
 
 abbrev pub Sides : Type 0

@@ -1,4 +1,4 @@
--- What tokens declare, told exactly: where they may stand, the judge goes on from the state behind them, and it comes to the end nowhere else.
+-- What tokens declare exactly: where they may stand, the judge goes on from the state behind them, and it comes to the end nowhere else.
 use Rattle.std.proofs.Common.{◌≡◌, List, [], ◌∷◌, ◌++◌, None, Some, Ok, refl, sym, ap, ◌∙◌, append_assoc}
 use Rattle.std.specs.Prelude.{Option}
 use Rattle.timbuk_lex.specs.declared.lexeme.Lexeme.{Lexeme}

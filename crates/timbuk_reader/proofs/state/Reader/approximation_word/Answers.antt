@@ -1,5 +1,5 @@
 use Rattle.std.proofs.Common.{sym, ◌∙◌, arith}
-use Rattle.timbuk_reader.proofs.parsing.ApproximationSection.{early_stops, other_stops, second_stops, word_leads}
+use Rattle.timbuk_reader.proofs.parsing.ApproximationSection.{early_stops, other_stops, second_stops, word_advances}
 use Rattle.timbuk_reader.proofs.state.Reader.approximation_word.Goals as goal
 use Rattle.timbuk_reader.proofs.state.Reader.approximation_word.Goals.{then-self-eq0-via-then-self-eq0, then-self-eq0-via-else-self-eq0+then-not-sees}
 
@@ -15,5 +15,5 @@ returns-then-self-ge-MAX_APPROXIMATIONS-clause-reads c =
 
 pub returns-clause-reads : goal.returns-clause-reads
 returns-clause-reads c = record {
-  by = word_leads c.args.self.now c.advance.new.self c.advance.result.now (sym c.sees.ensures.value ∙ c.if-not-sees.false) c.if-self-eq0.false (omega arith) c.advance.ensures.token c.advance.ensures.state c.advance.ensures.end;
+  by = word_advances c.args.self.now c.advance.new.self c.advance.result.now (sym c.sees.ensures.value ∙ c.if-not-sees.false) c.if-self-eq0.false (omega arith) c.advance.ensures.token c.advance.ensures.state c.advance.ensures.end;
 }

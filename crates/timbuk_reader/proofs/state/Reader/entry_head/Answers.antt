@@ -11,7 +11,7 @@ use Rattle.timbuk_reader.specs.declared.approximation.StartedEntry.{StartedEntry
 use Rattle.timbuk_reader.specs.View.{state_of}
 use Rattle.timbuk_reader.specs.Reads.{Stops}
 use Rattle.timbuk_reader.specs.ApproximationReads.{formed, headed}
-use Rattle.timbuk_reader.proofs.parsing.Tokens.{no_word_stops, word_stops, word_leads}
+use Rattle.timbuk_reader.proofs.parsing.Tokens.{no_word_stops, word_stops, word_advances}
 use Rattle.timbuk_reader.proofs.parsing.ApproximationNames.{formed_calm, head_full, head_unknown, head_row, head_arity, head_declared}
 use Rattle.timbuk_reader.proofs.state.Reader.entry_head.Goals as goal
 
@@ -54,6 +54,6 @@ returns-clause-ok c =
     let few : length r.entries < 1024 = omega arith in
     let found : number_of r.signature c.in_ok-name.name.now ≡ Some c.in-Some.sym = sym c.find.ensures.value ∙ c.in-Some.is in
     let entry : StartedEntry = record { form = c.in_ok-copy.field-0; sym = c.in-Some.sym; arity = c.unwrap.result; args = c.new.result; own = c.new-2.result } in
-    word_leads (terminal.Named role.EntryHead) (formed form) (headed entry) r u c.in_ok-name.name.now c.advance.result.now tt (formed_calm form) stands
+    word_advances (terminal.Named role.EntryHead) (formed form) (headed entry) r u c.in_ok-name.name.now c.advance.result.now tt (formed_calm form) stands
     (head_row form r c.in_ok-name.name.now stands.short few c.in-Some.sym found) c.advance.ensures.token c.advance.ensures.end
     (head_declared form r u c.in_ok-name.name.now entry c.in_ok-copy.ensures found (sym c.arity.ensures ∙ c.unwrap.ensures) c.advance.ensures.state c.advance.ensures.bound)

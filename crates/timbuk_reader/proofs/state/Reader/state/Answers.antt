@@ -2,7 +2,7 @@ use Rattle.std.proofs.Common.{arith, sym, ap, ◌∙◌}
 use Rattle.std.proofs.lemmas.Grind.{common_steps}
 use Rattle.timbuk_reader.specs.Meanings.{meant_by}
 use Rattle.timbuk_reader.specs.AutomatonReads.{StopsState}
-use Rattle.timbuk_reader.proofs.parsing.Automaton.{uses_means, means_nothing, state_below, unknown_stops, state_leads, applied_stops}
+use Rattle.timbuk_reader.proofs.parsing.Automaton.{uses_means, means_nothing, state_below, unknown_stops, state_advances, applied_stops}
 use Rattle.timbuk_reader.proofs.state.Reader.state.Goals as goal
 
 pub returns-in_default : goal.returns-in_default
@@ -36,7 +36,7 @@ returns-clause-ok c =
     let text = c.in_ok-name.name.now in
     let told = c.in_ok-leaf.ensures in
     let means = sym c.meaning.ensures ∙ ap meant_by c.in-State.is in
-    record { by = λ o ready. state_leads p o r (uses_means p c.requires) ready text c.in-State.state c.leaf.new.self c.in_ok-name.ensures.ok means told.0 told.1 }
+    record { by = λ o ready. state_advances p o r (uses_means p c.requires) ready text c.in-State.state c.leaf.new.self c.in_ok-name.ensures.ok means told.0 told.1 }
 
 pub returns-clause-below : goal.returns-clause-below
 returns-clause-below c =

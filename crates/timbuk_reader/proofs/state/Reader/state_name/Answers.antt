@@ -4,7 +4,7 @@ use Rattle.spec_text.specs.declared.fault.SpecKind.TheVariants as kind
 use Rattle.spec_text.specs.declared.fault.LimitName.TheVariants as limit
 use Rattle.timbuk_reader.specs.View.{closed, state_of}
 use Rattle.timbuk_reader.specs.AutomatonReads.{table_of}
-use Rattle.timbuk_reader.proofs.parsing.Tokens.{word_leads, word_stops, closed_calm}
+use Rattle.timbuk_reader.proofs.parsing.Tokens.{word_advances, word_stops, closed_calm}
 use Rattle.timbuk_reader.proofs.parsing.Names.{declared_over, declared_double, declared_new}
 use Rattle.timbuk_reader.proofs.parsing.Automaton.{may_declare, full_table, roomy_table, new_in_table}
 use Rattle.timbuk_reader.proofs.state.Reader.state_name.Goals as goal
@@ -39,7 +39,7 @@ returns-clause-reads c =
     let text = c.in_ok-name.name.now in
     let stands = c.in_ok-name.ensures.ok in
     let room : length (table_of p r) < 16384 = omega (arith, c.len.ensures.value, ap length c.table.ensures) in
-    word_leads (terminal.Named p) closed closed r c.advance.new.self text c.advance.result.now tt closed_calm stands
+    word_advances (terminal.Named p) closed closed r c.advance.new.self text c.advance.result.now tt closed_calm stands
     (declared_new p text (state_of r) (may_declare p r c.requires) stands.short (roomy_table p r text c.requires room) (sym c.is_double.ensures ∙ c.if-is_double.false))
     (sym c.in_ok-add_state.ensures.left.tokens ∙ c.advance.ensures.token) (c.advance.ensures.end ∙ c.in_ok-add_state.ensures.left.end)
     (c.advance.ensures.state ∙ c.in_ok-add_state.ensures.ok)

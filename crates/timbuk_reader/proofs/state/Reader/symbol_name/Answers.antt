@@ -8,7 +8,7 @@ use Rattle.spec_text.specs.declared.fault.LimitName.TheVariants as limit
 use Rattle.spec_text.specs.Declarations.{adds}
 use Rattle.spec_text.specs.Rows.{is_in}
 use Rattle.timbuk_reader.specs.View.{closed, naming, state_of}
-use Rattle.timbuk_reader.proofs.parsing.Tokens.{word_leads, word_stops, closed_calm, declared_same}
+use Rattle.timbuk_reader.proofs.parsing.Tokens.{word_advances, word_stops, closed_calm, declared_same}
 use Rattle.timbuk_reader.proofs.parsing.Names.{declared_over, declared_double, declared_new, reached, below, is_in-position}
 use Rattle.timbuk_reader.proofs.state.Reader.symbol_name.Goals as goal
 
@@ -38,6 +38,6 @@ returns-clause-ok c =
     let stands = c.in_ok-name.ensures.ok in
     let few : length r.signature < 4096 = omega arith in
     let absent : is_in (names_of r.signature) text ≡ Rattle.std.proofs.Common.false = is_in-position (names_of r.signature) text ∙ ap is_some (sym c.find.ensures.value) ∙ sym c.is_some.ensures ∙ c.if-is_some.false in
-    word_leads (terminal.Named role.Symbol) closed (naming text) r c.advance.new.self text c.advance.result.now tt closed_calm stands
+    word_advances (terminal.Named role.Symbol) closed (naming text) r c.advance.new.self text c.advance.result.now tt closed_calm stands
     (declared_new role.Symbol text (state_of r) tt stands.short (below 4096 (length r.signature) limit.Symbols few) absent) c.advance.ensures.token c.advance.ensures.end
     (declared_same (naming text) r c.advance.new.self c.advance.ensures.state c.advance.ensures.bound)

@@ -4,7 +4,7 @@ use Rattle.timbuk_grammar.specs.Matching.{matches}
 use Rattle.spec_text.specs.Declarations.{Declared}
 use Rattle.timbuk_reader.specs.View.{closed}
 use Rattle.timbuk_reader.proofs.parsing.Tokens.{mark_stops, closed_calm}
-use Rattle.timbuk_reader.proofs.keeping.Rules.{seen_first, system_stops, system_leads}
+use Rattle.timbuk_reader.proofs.keeping.Rules.{seen_first, system_stops, system_advances}
 use Rattle.timbuk_reader.proofs.state.Reader.system_word.Goals as goal
 
 pub returns-then-not-sees-clause-reads : goal.returns-then-not-sees-clause-reads
@@ -22,4 +22,4 @@ returns-clause-reads c =
     let r = c.args.self.now in
     let u = c.advance.new.self in
     let seen : matches terminal.Trs c.advance.result.now ≡ true = rw c.advance.ensures.token at (sym c.sees.ensures.value ∙ c.if-not-sees.false) in
-    system_leads r c.advance.result.now u.tokens.now c.advance.ensures.token _ seen (omega arith) refl c.advance.ensures.end (ap (λ (d : Declared). record d { systems = 1 }) c.advance.ensures.state)
+    system_advances r c.advance.result.now u.tokens.now c.advance.ensures.token _ seen (omega arith) refl c.advance.ensures.end (ap (λ (d : Declared). record d { systems = 1 }) c.advance.ensures.state)

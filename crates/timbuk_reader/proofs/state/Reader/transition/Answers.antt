@@ -10,7 +10,8 @@ use Rattle.timbuk_reader.specs.Reads.{Stops, Reads}
 use Rattle.timbuk_reader.specs.Patterns.{Advanced}
 use Rattle.timbuk_reader.specs.AutomatonReads.{head_arguments, target, headed, begun}
 use Rattle.timbuk_reader.proofs.parsing.Parts.{then_stops, later_stops, then_reads}
-use Rattle.timbuk_reader.proofs.parsing.Automaton.{closed_ready, head_state_below, head_symbol_over, state_head_leads, state_head_stops, constant_leads, constant_stops, function_leads, unknown_head_stops, no_arguments}
+use Rattle.timbuk_reader.proofs.parsing.Automaton.{closed_ready}
+use Rattle.timbuk_reader.proofs.parsing.TransitionHeads.{head_state_below, head_symbol_over, state_head_advances, state_head_stops, constant_advances, constant_stops, function_advances, unknown_head_stops, no_arguments}
 use Rattle.timbuk_reader.proofs.state.Reader.transition.Goals as goal
 use Rattle.timbuk_reader.proofs.parsing.Arguments.{no_name_stops}
 
@@ -48,7 +49,7 @@ returns-in_ok-leaf-in-State-clause-reads c =
     let told = c.in_ok-leaf-in-State.ensures in
     let means = sym c.meaning.ensures ∙ ap meant_by c.in-State.is in
     then_reads (name role.TransitionHead) (head_arguments then target) closed o closed r m u c.epsilon_target.result
-    (state_head_leads r m c.in_ok-name.name.now c.in_ok-name.ensures.ok told.0 q means told.1)
+    (state_head_advances r m c.in_ok-name.name.now c.in_ok-name.ensures.ok told.0 q means told.1)
     (then_reads head_arguments target o o closed m m u c.epsilon_target.result (no_arguments (state_head q) m told.1) c.epsilon_target.ensures.reads)
 
 pub returns-in_err-leaf-in-Symbol-default-eq0-clause-reads : goal.returns-in_err-leaf-in-Symbol-default-eq0-clause-reads
@@ -83,7 +84,7 @@ returns-in_ok-leaf-in-Symbol-default-eq0-clause-reads c =
     let means = sym c.meaning.ensures ∙ ap meant_by c.in-Symbol-default-eq0.is ∙ ap (a_symbol f) c.in-Symbol-default-eq0.field-1-test in
     let reads = subst (λ (qs : List ℕ). Reads target (headed (symbol_head f) qs) m c.transition_target.result closed u) c.new.ensures c.transition_target.ensures.reads in
     then_reads (name role.TransitionHead) (head_arguments then target) closed o closed r m u c.transition_target.result
-    (constant_leads r m c.in_ok-name.name.now c.in_ok-name.ensures.ok told.0 f means told.1)
+    (constant_advances r m c.in_ok-name.name.now c.in_ok-name.ensures.ok told.0 f means told.1)
     (then_reads head_arguments target o o closed m m u c.transition_target.result (no_arguments (symbol_head f) m told.1) reads)
 
 pub returns-in_err-args-in-Symbol-clause-reads : goal.returns-in_err-args-in-Symbol-clause-reads
@@ -97,7 +98,7 @@ returns-in_err-args-in-Symbol-clause-reads c =
     let means = sym c.meaning.ensures ∙ ap meant_by c.in-Symbol.is in
     let stops : Stops transition closed r e =
     later_stops (name role.TransitionHead) (head_arguments then target) closed (begun f n) r m e
-    (function_leads r m c.in_ok-name.name.now c.in_ok-name.ensures.ok taken f n c.in-Symbol.arity-test.1 means)
+    (function_advances r m c.in_ok-name.name.now c.in_ok-name.ensures.ok taken f n c.in-Symbol.arity-test.1 means)
     (then_stops head_arguments target (begun f n) m e (c.in_err-args-in-Symbol.ensures.err.by f)) in
     grind (arith, common_steps)
 
@@ -122,7 +123,7 @@ returns-in_ok-args-in-Symbol-clause-reads c =
     let taken : Advanced r m = record { token = c.advance.result.now; tokens = c.advance.ensures.token; state = c.advance.ensures.state; bound = c.advance.ensures.bound; end = c.advance.ensures.end } in
     let means = sym c.meaning.ensures ∙ ap meant_by c.in-Symbol.is in
     then_reads (name role.TransitionHead) (head_arguments then target) closed (begun f n) closed r m u c.transition_target-in-Symbol.result
-    (function_leads r m c.in_ok-name.name.now c.in_ok-name.ensures.ok taken f n c.in-Symbol.arity-test.1 means)
+    (function_advances r m c.in_ok-name.name.now c.in_ok-name.ensures.ok taken f n c.in-Symbol.arity-test.1 means)
     (then_reads head_arguments target (begun f n) (headed (symbol_head f) args) closed m v u c.transition_target-in-Symbol.result (c.in_ok-args-in-Symbol.ensures.ok.by f) c.transition_target-in-Symbol.ensures.reads)
 
 pub returns-in-Variable-clause-reads : goal.returns-in-Variable-clause-reads

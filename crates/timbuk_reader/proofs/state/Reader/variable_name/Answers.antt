@@ -7,12 +7,12 @@ use Rattle.spec_text.specs.declared.fault.LimitName.TheVariants as limit
 use Rattle.spec_text.specs.Declarations.{adds}
 use Rattle.spec_text.specs.Rows.{is_in}
 use Rattle.timbuk_reader.specs.View.{closed, state_of}
-use Rattle.timbuk_reader.proofs.parsing.Tokens.{word_leads, word_stops, closed_calm}
+use Rattle.timbuk_reader.proofs.parsing.Tokens.{word_advances, word_stops, closed_calm}
 use Rattle.timbuk_reader.proofs.parsing.Names.{declared_over, declared_double, declared_new, reached, below, no_position, is_in-neither}
 use Rattle.timbuk_reader.proofs.state.Reader.variable_name.Goals as goal
 
-pub returns-then-len-ge-MAX_VARIABLES-clause-reads : goal.returns-then-len-ge-MAX_VARIABLES-clause-reads
-returns-then-len-ge-MAX_VARIABLES-clause-reads c =
+pub returns-then-len-ge-MAX_DECLARED-clause-reads : goal.returns-then-len-ge-MAX_DECLARED-clause-reads
+returns-then-len-ge-MAX_DECLARED-clause-reads c =
     let r = c.args.self.now in
     let stands = c.in_ok-name.ensures.ok in
     let many : 1024 ≤ length r.variables = omega arith in
@@ -43,6 +43,6 @@ returns-clause-reads c =
     let stands = c.in_ok-name.ensures.ok in
     let few : length r.variables < 1024 = omega arith in
     let new : is_in (names_of r.signature ++ r.variables) text ≡ false = sym c.is_taken.ensures ∙ c.if-is_taken.false in
-    word_leads (terminal.Named role.Variable) closed closed r c.advance.new.self text c.advance.result.now tt closed_calm stands
+    word_advances (terminal.Named role.Variable) closed closed r c.advance.new.self text c.advance.result.now tt closed_calm stands
     (declared_new role.Variable text (state_of r) tt stands.short (below 1024 (length r.variables) limit.Declared few) new) c.advance.ensures.token c.advance.ensures.end
     (c.advance.ensures.state ∙ rw c.in_ok-add.ensures.ok refl)
