@@ -1,5 +1,9 @@
 -- What is claimed of input texts (this project's own format).
-use Rattle.std.specs.Prelude.{◌≡◌, ◌↔◌, ℕ, List, Ok, Err}
+use Rattle.std.specs.Prelude.{◌≡◌, ◌↔◌, ◌++◌, ℕ, List, Ok, Err}
+use Rattle.std.specs.List.{IsDistinct}
+use Rattle.std.specs.Str.{bytes_eq}
+use Rattle.ranked_terms.specs.Names.{names_of}
+use Rattle.ranked_terms.specs.SignatureRules.{IsSignature}
 use Rattle.ta_core.specs.declared.spec.Spec.{Spec}
 use Rattle.spec_text.specs.declared.fault.SpecFault.{SpecFault}
 use Rattle.spec_text.specs.Declarations.{Declared}
@@ -41,3 +45,7 @@ SpelledHasNoFault = (bytes : List ℕ) (spec : Spec) (f : SpecFault) → SpecTex
 -- a text has at most one first fault
 abbrev pub OneFirstFault : Type 0
 OneFirstFault = (bytes : List ℕ) (f g : SpecFault) → SpecFaultAt bytes f → SpecFaultAt bytes g → f ≡ g
+
+-- the symbols of a specification that a text spells are a signature, and no two symbols and variables have one name
+abbrev pub SpelledNamesDiffer : Type 0
+SpelledNamesDiffer = (bytes : List ℕ) (spec : Spec) → SpecText bytes spec → IsSignature spec.signature × IsDistinct bytes_eq (names_of spec.signature ++ spec.vars)

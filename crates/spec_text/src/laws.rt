@@ -1,6 +1,8 @@
 //! Laws of input texts. Each function does nothing: its contract is the law.
 ghost use Rattle.spec_text.specs.Laws.{WhatIsReadIsSpelled, WhatIsSpelledIsRead, WhatHasNoFaultIsSpelled, OneSpec};
-ghost use Rattle.spec_text.specs.Laws.{FaultsAreFirst, SpelledHasNoFault, OneFirstFault};
+ghost use Rattle.spec_text.specs.Laws.{FaultsAreFirst, SpelledHasNoFault, OneFirstFault, SpelledNamesDiffer};
+
+use timbuk_lex::token_words_law;
 
 /// No row of the table of faults fits a text anywhere exactly where the text spells a specification, and this is what is
 /// read in it.
@@ -29,3 +31,11 @@ pub fn spelled_texts_have_no_fault()
 pub fn no_text_has_two_first_faults()
     ensures { OneFirstFault }
 {}
+
+/// The symbols of a specification that a text spells are a signature, and no two of its symbols and variables have one name.
+pub fn spelled_names_differ()
+    ensures { SpelledNamesDiffer }
+{
+    // For the proof: the text of a word token is a word.
+    token_words_law();
+}

@@ -10,9 +10,10 @@ mod limits;
 
 pub use fault::{LimitName, SpecFault, SpecKind};
 pub use laws::{
-    faults_are_first, no_text_has_two_first_faults, no_text_has_two_specs, spelled_texts_have_no_fault, texts_are_read,
+    faults_are_first, no_text_has_two_first_faults, no_text_has_two_specs, spelled_names_differ,
+    spelled_texts_have_no_fault, texts_are_read,
 };
 pub use limits::{
-    MAX_APPROXIMATIONS, MAX_AUTOMATA, MAX_ENTRIES, MAX_EQUATION_SECTIONS, MAX_EQUATIONS, MAX_NESTING, MAX_RULES, MAX_SYSTEMS,
-    MAX_VARIABLES, MAX_DECLARED,
+    MAX_APPROXIMATIONS, MAX_AUTOMATA, MAX_DECLARED, MAX_ENTRIES, MAX_EQUATION_SECTIONS,
+    MAX_EQUATIONS, MAX_NESTING, MAX_RULES, MAX_SYSTEMS, MAX_VARIABLES,
 };

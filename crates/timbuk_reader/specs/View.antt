@@ -6,8 +6,6 @@ use Rattle.timbuk_lex.specs.Places.{line_of, column_of}
 use Rattle.timbuk_lex.specs.declared.lexeme.Lexeme.{Lexeme}
 use Rattle.timbuk_lex.specs.declared.lex.Ending.{Ending}
 use Rattle.timbuk_lex.specs.declared.lex.Ending.TheVariants.{Whole, Stopped}
-use Rattle.timbuk_grammar.specs.declared.terminal.Terminal.{Terminal}
-use Rattle.timbuk_grammar.specs.Matching.{matches}
 use Rattle.timbuk_grammar.specs.Grammar.{Part}
 use Rattle.spec_text.specs.declared.fault.SpecKind.{SpecKind}
 use Rattle.spec_text.specs.declared.fault.SpecKind.TheVariants as kind

@@ -1,10 +1,7 @@
 -- A text that spells a specification has no fault, and no text has two first faults.
-use Rattle.std.proofs.Common.{◌≡◌, ℕ, List, Ok, Err, sym, ◌∙◌}
-use Rattle.ta_core.specs.declared.spec.Spec.{Spec}
+use Rattle.std.proofs.Common.{◌≡◌, Err, sym, ◌∙◌}
 use Rattle.spec_text.specs.declared.fault.SpecFault.{SpecFault}
-use Rattle.spec_text.specs.Reading.{Outcome, read}
-use Rattle.spec_text.specs.Faults.{SpecFaultAt}
-use Rattle.spec_text.specs.SpecText.{SpecText}
+use Rattle.spec_text.specs.Reading.{Outcome}
 use Rattle.spec_text.specs.Laws.{SpelledHasNoFault, OneFirstFault}
 use Rattle.spec_text.proofs.faults.First.{faults_are_first}
 use Rattle.spec_text.proofs.agreement.sections.Texts.{spelled_is_read}

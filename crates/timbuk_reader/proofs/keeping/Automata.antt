@@ -1,23 +1,20 @@
 -- The automata of a specification, of the states and transitions that were read.
-use Rattle.std.proofs.Common.{◌≡◌, ◌≢◌, ℕ, ◌+◌, ◌<◌, ◌==◌, Bool, true, false, not, ◌&&◌, nat_lt, List, [], ◌∷◌, ◌++◌, All, Contains, length, sym, ap, subst, ◌∙◌, refl, inr, ⊎_elim, arith}
+use Rattle.std.proofs.Common.{◌≡◌, ◌≢◌, ℕ, ◌+◌, ◌<◌, ◌==◌, Bool, true, false, not, ◌&&◌, nat_lt, List, [], ◌∷◌, ◌++◌, All, Contains, sym, ap, subst, ◌∙◌, refl, inr, ⊎_elim, arith}
 use Rattle.std.specs.declared.cmp.Ordering.{Ordering}
 use Rattle.std.specs.List.{range_with_len, filter}
 use Rattle.std.specs.List.Sorted.{IsStrictlySortedBy}
 use Rattle.std.specs.Ordering.{nat_cmp}
 use Rattle.std.proofs.lemmas.Bool.Decides.{nat_tests}
 use Rattle.std.proofs.lemmas.List.{map-id}
-use Rattle.std.proofs.lemmas.List.Elements.{All-weaker, All-contains, All-contains_itself, All-filter, filter_passes}
+use Rattle.std.proofs.lemmas.List.Elements.{All-weaker, All-filter, filter_passes}
 use Rattle.std.proofs.lemmas.List.FromFn.{length-range_with_len, get_or-range_with_len, map-range_with_len_more}
-use Rattle.std.proofs.lemmas.List.Sums.{AllPass-from_list_all, list_all-from_AllPass}
+use Rattle.std.proofs.lemmas.List.Sums.{AllPass-from_list_all}
 use Rattle.std.proofs.lemmas.Map.Keys.{sorted_from_strictly_increasing}
-use Rattle.ranked_terms.specs.Names.{Symbol}
-use Rattle.ranked_terms.specs.Terms.{is_symbol}
 use Rattle.ta_core.specs.Orders.{IsUnion}
-use Rattle.ta_core.specs.SpecRules.{automaton_is_over}
 use Rattle.ta_core.specs.TreeAutomaton.{TreeAutomaton, IsTransOf, IsEpsOf, bare, trans_cmp, pair_cmp}
 use Rattle.ta_core.specs.declared.trans.Trans.{Trans}
 use Rattle.spec_text.specs.Declarations.{Started}
-use Rattle.timbuk_reader.specs.Kept.{trans_are_over, states_are_below, trans_are_below, eps_are_below}
+use Rattle.timbuk_reader.specs.Kept.{states_are_below, trans_are_below, eps_are_below}
 use Rattle.spec_text.specs.SpecText.{IsAscendingSet}
 use Rattle.spec_text.specs.Spelled.{IsAutomatonOf}
 

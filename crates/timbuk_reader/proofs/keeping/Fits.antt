@@ -1,18 +1,16 @@
 -- What is known of a shape that was read.
 use Rattle.std.proofs.Math.Bool.{and-false}
 use Rattle.std.proofs.Common.{◌≡◌, ℕ, zero, suc, ◌<◌, length, get_or, Bool, true, false, ◌&&◌, ◌==◌, List, [], ◌∷◌, ◌++◌, map, Option, Some, None, cond, refl, ap, sym, ◌∙◌, subst, arith, append_assoc}
-use Rattle.std.specs.Prelude.{nat_lt, not}
+use Rattle.std.specs.Prelude.{not}
 use Rattle.std.specs.List.{list_all}
 use Rattle.std.proofs.lemmas.Bool.{and_parts, and_from}
-use Rattle.std.proofs.lemmas.List.{length-map, append-nil, map-append}
+use Rattle.std.proofs.lemmas.List.{append-nil, map-append}
 use Rattle.std.proofs.lemmas.Bool.Decides.{nat_tests}
-use Rattle.ranked_terms.specs.Names.{Symbol, arity_of}
+use Rattle.ranked_terms.specs.Names.{arity_of}
 use Rattle.ranked_terms.specs.Terms.{is_symbol, is_arity, joined}
 use Rattle.ranked_terms.specs.declared.term.Shape.{Shape}
-use Rattle.ranked_terms.specs.declared.term.Shape.TheOpen as layer
-use Rattle.ranked_terms.specs.declared.term.Shape.TheVariants.{Var, State, App, rolls-Var, rolls-State, rolls-App}
-use Rattle.ranked_terms.specs.declared.term.Shape.TheFolds.{fold-roll-Shape}
-use Rattle.ta_core.specs.SpecRules.{shape_is_over, shape_is_over_step, shape_is_below, shape_is_below_step, shape_occurrences, shape_occurrences_step}
+use Rattle.ranked_terms.specs.declared.term.Shape.TheVariants.{Var, State, App}
+use Rattle.ta_core.specs.SpecRules.{shape_is_over, shape_is_below, shape_occurrences}
 use Rattle.timbuk_grammar.specs.declared.terminal.Role.{Role}
 use Rattle.timbuk_grammar.specs.declared.terminal.Role.TheVariants as role
 use Rattle.timbuk_reader.specs.declared.state.Reader.{Reader}

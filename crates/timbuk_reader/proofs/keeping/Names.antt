@@ -1,11 +1,10 @@
 -- Tables of names as lists.
-use Rattle.std.proofs.Common.{◌≡◌, ℕ, suc, ◌+◌, ◌<◌, Bool, true, false, not, ◌||◌, nat_lt, cond, List, [], ◌∷◌, ◌++◌, length, position, Some, None, String, string_bytes, refl, sym, ap, ◌∙◌, arith, length-append}
+use Rattle.std.proofs.Common.{◌≡◌, ℕ, suc, ◌+◌, ◌<◌, Bool, false, not, ◌||◌, nat_lt, cond, List, [], ◌∷◌, ◌++◌, length, position, Some, None, String, string_bytes, refl, sym, ap, ◌∙◌, arith, length-append}
 use Rattle.std.specs.Prelude.{is_some}
 use Rattle.std.specs.Global.{Global}
 use Rattle.std.specs.List.{IsDistinct, AllByRecursion, position_or_len, list_any}
 use Rattle.std.specs.Str.{bytes_eq}
 use Rattle.std.specs.String.{string_eq}
-use Rattle.std.proofs.lemmas.Bool.Decides.{nat_tests}
 use Rattle.indexmap.specs.IndexSet.{insert_key}
 use Rattle.spec_text.specs.lemmas.Variables.{is_some_position}
 use Rattle.timbuk_reader.specs.NameTables.{texts_of, AreNames}

@@ -7,10 +7,8 @@ use Rattle.timbuk_grammar.specs.Grammar.{file}
 use Rattle.timbuk_reader.specs.declared.state.Reader.{Reader}
 use Rattle.spec_text.specs.declared.fault.SpecFault.{SpecFault}
 use Rattle.timbuk_reader.specs.declared.fault.SpecError.TheVariants as error
-use Rattle.ta_core.specs.declared.spec.Spec.{Spec}
 use Rattle.spec_text.specs.Declarations.{Declared, any, nothing}
 use Rattle.spec_text.specs.Reading.{Outcome, outcome, read}
-use Rattle.spec_text.specs.Spelled.{IsSpecOf}
 use Rattle.spec_text.specs.Reading.{settled}
 use Rattle.timbuk_reader.specs.View.{as_error, state_of, end_line, end_column, end_of}
 

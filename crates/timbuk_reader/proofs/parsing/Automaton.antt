@@ -1,29 +1,25 @@
 -- The states of an automaton that are used, one token at a time.
-use Rattle.std.proofs.Common.{◌≡◌, ◌≢◌, ◌⊎◌, inl, inr, ℕ, zero, suc, eq-eqb, ◌+◌, ◌<◌, ◌≤◌, length, arith, Bool, true, false, not, ◌||◌, ◌==◌, cond, List, [], ◌∷◌, ◌++◌, Option, Some, None, Err, refl, ap, sym, ◌∙◌, subst, append_assoc}
-use Rattle.std.specs.Prelude.{nat_lt, nat_le, position, option_map, unwrap_or, slice_get}
+use Rattle.std.proofs.Common.{◌≡◌, ℕ, ◌+◌, ◌<◌, ◌≤◌, length, arith, Bool, true, false, not, ◌||◌, ◌==◌, cond, List, [], ◌∷◌, ◌++◌, Option, Some, None, Err, refl, ap, sym, ◌∙◌, subst, append_assoc}
+use Rattle.std.specs.Prelude.{nat_lt, nat_le, position, option_map}
 use Rattle.std.specs.Str.{bytes_eq}
-use Rattle.std.proofs.Math.Bool.{and-false}
 use Rattle.std.proofs.lemmas.Bool.Decides.{nat_tests}
 use Rattle.std.proofs.lemmas.List.Quantifiers.{position-Some}
-use Rattle.std.proofs.lemmas.List.{length-map}
-use Rattle.std.proofs.lemmas.Option.{slice_get-get_or}
 use Rattle.ranked_terms.specs.declared.term.Shape.TheVariants as shape
 use Rattle.ta_core.specs.TreeAutomaton.{trans_of}
-use Rattle.ranked_terms.specs.Names.{Symbol, names_of, number_of, arity_of}
-use Rattle.ranked_terms.specs.Terms.{is_arity, is_symbol}
+use Rattle.ranked_terms.specs.Names.{names_of}
 use Rattle.timbuk_lex.specs.declared.lexeme.Lexeme.{Lexeme}
 use Rattle.timbuk_grammar.specs.declared.terminal.Role.{Role}
 use Rattle.timbuk_grammar.specs.declared.terminal.Role.TheVariants as role
 use Rattle.timbuk_grammar.specs.declared.terminal.Terminal.TheVariants as terminal
 use Rattle.timbuk_grammar.specs.Matching.{matches}
-use Rattle.timbuk_grammar.specs.Grammar.{Part, one, ◌then◌, many, name}
+use Rattle.timbuk_grammar.specs.Grammar.{Part, one, name}
 use Rattle.spec_text.specs.declared.fault.SpecKind.TheVariants as kind
 use Rattle.spec_text.specs.declared.fault.LimitName.{LimitName}
 use Rattle.spec_text.specs.declared.fault.LimitName.TheVariants as limit
 use Rattle.timbuk_reader.specs.declared.fault.SpecError.{SpecError}
 use Rattle.timbuk_reader.specs.declared.fault.SpecError.TheVariants as error
 use Rattle.timbuk_reader.specs.declared.state.Reader.{Reader}
-use Rattle.spec_text.specs.Declarations.{Text, Declared, Started, Head, no_head, state_head, symbol_head, any, leaf, constant, unknown, a_variable, a_state, a_symbol, or_else, as_symbol, as_state, meaning, current, with_current, uses, placed, named, adds}
+use Rattle.spec_text.specs.Declarations.{Text, Declared, Started, Head, no_head, state_head, symbol_head, any, leaf, unknown, a_state, as_state, meaning, current, with_current, uses, placed, named, adds}
 use Rattle.spec_text.specs.Rows.{or, when, wrong_count, over, passed, misnamed, is_in, is_double}
 use Rattle.spec_text.specs.Reading.{End, outcome}
 use Rattle.timbuk_reader.specs.View.{Open, closed, declared, state_of, end_of, from, as_error, refusal_at, refusal}
@@ -33,12 +29,12 @@ use Rattle.timbuk_reader.specs.Patterns.{Advanced}
 use Rattle.timbuk_reader.specs.declared.meaning.Meaning.{Meaning as Told}
 use Rattle.timbuk_reader.specs.declared.meaning.Meaning.TheVariants as told
 use Rattle.timbuk_reader.specs.Meanings.{meant_by}
-use Rattle.timbuk_reader.specs.AutomatonReads.{states_of, with_trans, with_epsilon, SameTokens, MayDeclare, table_of, UsesState, miscounts, IsReady, ReadState, StopsState, head_arguments, begun, headed}
-use Rattle.timbuk_reader.proofs.parsing.Parts.{one_front, then_head, maybe_none}
+use Rattle.timbuk_reader.specs.AutomatonReads.{states_of, with_trans, with_epsilon, SameTokens, MayDeclare, table_of, UsesState, miscounts, IsReady, ReadState, StopsState, headed}
+use Rattle.timbuk_reader.proofs.parsing.Parts.{one_front}
 use Rattle.timbuk_reader.proofs.parsing.Tokens.{use_row, Quiet, row_other, step_on, step_fault, declared_same}
 use Rattle.timbuk_reader.proofs.parsing.Names.{Declares, reached, below, is_in-append}
-use Rattle.spec_text.specs.lemmas.LastToken.{after, leaf_whole, constant_whole, read_after}
-use Rattle.timbuk_reader.proofs.parsing.Arguments.{quiet_by, calm_ready, no_name_stops, leaf_applied, constant_applied}
+use Rattle.spec_text.specs.lemmas.LastToken.{after, leaf_whole, read_after}
+use Rattle.timbuk_reader.proofs.parsing.Arguments.{quiet_by, calm_ready, no_name_stops, leaf_applied}
 
 -- ---- what a name means
 

@@ -1,33 +1,31 @@
 -- The entries of an approximation rule, each exactly as it is declared.
-use Rattle.std.proofs.Common.{◌≡◌, ℕ, zero, suc, ◌+◌, ◌<◌, ◌≤◌, Bool, true, false, ◌==◌, List, [], ◌∷◌, ◌++◌, length, map, fold, Option, Some, None, Contains, refl, sym, ap, subst, ◌∙◌, append_assoc, length-append, arith}
+use Rattle.std.proofs.Common.{◌≡◌, ℕ, ◌+◌, ◌<◌, ◌≤◌, List, [], ◌∷◌, ◌++◌, length, map, fold, Option, Some, None, refl, sym, ap, subst, ◌∙◌, append_assoc, length-append, arith}
 use Rattle.std.specs.Prelude.{flat_map, if◌then◌else◌}
 use Rattle.std.specs.List.{AllZip}
-use Rattle.std.proofs.lemmas.Bool.{eqb-true, eq-eqb}
+use Rattle.std.proofs.lemmas.Bool.{eq-eqb}
 use Rattle.std.proofs.lemmas.List.{append-nil}
 use Rattle.std.proofs.lemmas.List.Sums.{fold-append}
 use Rattle.std.proofs.lemmas.Option.{same_Some}
-use Rattle.ranked_terms.specs.Terms.{with_variable as with_first, firsts, joined}
+use Rattle.ranked_terms.specs.Terms.{with_variable as with_first, firsts}
 use Rattle.ranked_terms.specs.declared.term.Shape.{Shape}
 use Rattle.ranked_terms.specs.declared.term.Shape.TheVariants as shape
 use Rattle.trs_rules.specs.declared.entry.Entry.{Entry}
 use Rattle.ta_core.specs.SpecRules.{shape_occurrences, entry_variables}
-use Rattle.timbuk_grammar.specs.declared.terminal.Role.TheVariants as role
-use Rattle.timbuk_grammar.specs.declared.terminal.Terminal.TheVariants as terminal
 use Rattle.timbuk_grammar.specs.Grammar as grammar
 use Rattle.timbuk_grammar.specs.Grammar.{one, ◌then◌}
-use Rattle.timbuk_grammar.specs.Trees.{Token, Value}
-use Rattle.spec_text.specs.Declarations.{Text, Declared, Last, any, leaf, constant, function, Meaning, unknown, a_variable, a_state, a_symbol, adds}
+use Rattle.timbuk_grammar.specs.Trees.{Value}
+use Rattle.spec_text.specs.Declarations.{Text, Declared, Last, leaf, Meaning, a_symbol}
 use Rattle.spec_text.specs.Source.{Arrow, ApproximationRule, text_of, arguments_of, entry_of}
-use Rattle.spec_text.specs.Naming.{Names, stands_for, leaf_shape, node_shape, one_and_more, shape_in, nesting_in, leaves}
+use Rattle.spec_text.specs.Naming.{Names, stands_for, leaf_shape, node_shape, shape_in, nesting_in}
 use Rattle.spec_text.specs.Reading.{End}
 use Rattle.spec_text.specs.SpecText.{without_symbols, IsEntryFrom}
-use Rattle.spec_text.proofs.agreement.tokens.Labels.{Label, label, labelled}
+use Rattle.spec_text.proofs.agreement.tokens.Labels.{labelled}
 use Rattle.spec_text.proofs.agreement.tokens.Last.{IsQuiet}
-use Rattle.spec_text.proofs.agreement.tokens.Exact.{Whatever, IsTied, no_tokens, one_token, free_token, no_token, in_turn, by_witness}
-use Rattle.spec_text.proofs.agreement.approximation.Variables.{IsFew, own_with, own_after, both_after, fewer}
+use Rattle.spec_text.proofs.agreement.tokens.Exact.{Whatever, IsTied, no_tokens, in_turn, by_witness}
+use Rattle.spec_text.proofs.agreement.approximation.Variables.{IsFew}
 use Rattle.spec_text.specs.lemmas.Shapes.{occurs_app}
-use Rattle.spec_text.proofs.agreement.approximation.Rows.{amid, names_at, AreShort, IsLeaf, leaf_meaning, IsHead, symbol_meaning, open_row, no_open_row, comma_row, more_to_come, close_row, all_there, no_simple_row}
-use Rattle.spec_text.proofs.agreement.approximation.Tokens.{application, among, behind_head, entry_to, with_entries, argument_tied, head_tied, target_tied, arrow_tied}
+use Rattle.spec_text.proofs.agreement.approximation.Rows.{amid, names_at, AreShort, IsHead, symbol_meaning}
+use Rattle.spec_text.proofs.agreement.approximation.Tokens.{entry_to, with_entries, head_tied}
 use Rattle.spec_text.proofs.agreement.approximation.Arguments.{Arguments, variables_in, IsNode, is_node, IsApplied, applied_tied}
 
 -- ---- an entry

@@ -2,23 +2,20 @@
 use Rattle.std.proofs.Common.{◌≡◌, ℕ, zero, suc, List, [], ◌∷◌, ◌++◌, map, refl, ap, sym, ◌∙◌}
 use Rattle.std.specs.Prelude.{Option, Some, None, unwrap_or}
 use Rattle.std.specs.List.{AllByRecursion}
-use Rattle.ranked_terms.specs.Terms.{joined, occurrences}
+use Rattle.ranked_terms.specs.Terms.{joined}
 use Rattle.ranked_terms.specs.declared.term.Pattern.{Pattern}
-use Rattle.ranked_terms.specs.declared.term.Pattern.TheOpen as pattern
-use Rattle.ranked_terms.specs.declared.term.Pattern.TheVariants.{Var, App, rolls-Var, rolls-App}
-use Rattle.ranked_terms.specs.declared.term.Pattern.TheFolds.{fold-roll-Pattern}
+use Rattle.ranked_terms.specs.declared.term.Pattern.TheVariants.{Var, App}
 use Rattle.ranked_terms.specs.declared.term.Shape.{Shape}
 use Rattle.ranked_terms.specs.declared.term.Shape.TheVariants as shape
 use Rattle.ranked_terms.specs.declared.term.Shape.TheOpen as layer
 use Rattle.ranked_terms.specs.declared.term.Shape.TheViews.{out-Shape, out-roll-Shape}
-use Rattle.ranked_terms.specs.declared.term.Shape.TheFolds.{fold-roll-Shape}
 use Rattle.ranked_terms.proofs.TermLaws.{pattern_induction}
 use Rattle.ta_core.specs.SpecRules.{shape_occurrences}
 use Rattle.spec_text.specs.lemmas.Shapes.{occurs_var, occurs_state, occurs_app, shape_of_var, shape_of_app}
 use Rattle.timbuk_grammar.specs.declared.terminal.Role.{Role}
 use Rattle.timbuk_grammar.specs.Trees.{Tree, Trees, leaf, node, none, comma}
 use Rattle.spec_text.specs.Source.{text_of}
-use Rattle.spec_text.specs.Naming.{Names, stands_for, leaf_shape, shape_in, shapes_in, shape_step, shape_of}
+use Rattle.spec_text.specs.Naming.{Names, stands_for, leaf_shape, shape_in, shapes_in, shape_of}
 use Rattle.spec_text.specs.Declarations.{Meaning, unknown, a_variable, a_state, a_symbol}
 use Rattle.spec_text.proofs.agreement.patterns.Steps.{meant_variables}
 use Rattle.spec_text.proofs.agreement.patterns.Patterns.{variables_in, variables_among, both_parts, applied_parts}

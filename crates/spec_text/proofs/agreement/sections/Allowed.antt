@@ -1,15 +1,14 @@
 -- What sections may declare, kind by kind, and one section more.
-use Rattle.std.proofs.Common.{◌≡◌, ◌+◌, ◌<◌, ◌≤◌, List, [], ◌∷◌, ◌++◌, length, All, Contains, refl, sym, ap, subst, ◌∙◌, append_assoc, length-append, arith}
-use Rattle.std.specs.Prelude.{flat_map}
+use Rattle.std.proofs.Common.{◌≡◌, ◌+◌, ◌<◌, ◌≤◌, List, [], ◌∷◌, ◌++◌, length, All, Contains, refl, sym, ap, subst, length-append, arith}
 use Rattle.std.specs.List.{AllZip}
 use Rattle.std.proofs.lemmas.List.{append-nil}
-use Rattle.std.proofs.lemmas.List.Elements.{All-nil, All-cons, All-head, All-tail, All-push}
+use Rattle.std.proofs.lemmas.List.Elements.{All-push}
 use Rattle.ranked_terms.specs.Names.{Symbol, names_of}
 use Rattle.trs_rules.specs.declared.entry.Entry.{Entry}
 use Rattle.spec_text.specs.Declarations.{Text}
-use Rattle.spec_text.specs.Source.{RuleDeclaration, EquationDeclaration, AutomatonDeclaration, ApproximationRule, Section, system, automaton, equations, approximation}
+use Rattle.spec_text.specs.Source.{RuleDeclaration, EquationDeclaration, AutomatonDeclaration, ApproximationRule, system, automaton, equations, approximation}
 use Rattle.spec_text.specs.Naming.{AreNewNames, Names, IsTransition}
-use Rattle.spec_text.specs.SpecText.{systems_in, automata_in, equations_in, approximations_in, NoneEarly, IsEntryFrom, entries_of, all_of}
+use Rattle.spec_text.specs.SpecText.{IsEntryFrom, entries_of, all_of}
 use Rattle.spec_text.proofs.agreement.approximation.Section.{cut, both}
 use Rattle.spec_text.proofs.agreement.names.Texts.{AreNewNames-front}
 use Rattle.spec_text.proofs.agreement.sections.Parts.{Parts, all_front, all_last, all_of-push, extra_of, first_states, first_rules, initial_states, no_approximation, none_left, none_zip, rules_of, with_section}
