@@ -1,9 +1,11 @@
+pub use Rattle.spec_text.specs.Limits
 pub use Rattle.spec_text.specs.Declarations
 pub use Rattle.spec_text.specs.Rows
 pub use Rattle.spec_text.specs.Source
 pub use Rattle.spec_text.specs.Naming
 pub use Rattle.spec_text.specs.SpecText
 pub use Rattle.spec_text.specs.Faults
+pub use Rattle.spec_text.specs.Laws
 pub mod Tokens
 pub mod NameTables
 pub mod View

@@ -17,8 +17,9 @@ use Rattle.ranked_terms.specs.Names.{Symbol, number_of, arity_of}
 use Rattle.ranked_terms.specs.Terms.{is_symbol, is_arity}
 use Rattle.ta_core.specs.TreeAutomaton.{TreeAutomaton}
 use Rattle.ta_core.specs.declared.trans.Trans.{Trans}
-use Rattle.ta_core.proofs.Members.{here, there, parts, inserted, kept, was}
-use Rattle.ta_core.proofs.Orders.{trans_total, trans_exact, pair_total, pair_exact}
+use Rattle.list_laws.proofs.Members.{here, there, parts}
+use Rattle.list_laws.proofs.Inserting.{inserted, kept, was}
+use Rattle.ta_core.specs.lemmas.Orders.{trans_total, trans_exact, pair_total, pair_exact}
 use Rattle.spec_text.specs.Declarations.{Text, Started}
 use Rattle.spec_text.specs.Naming.{place_in, IsTransition, by_symbol, by_state, with_trans, transitions_in}
 use Rattle.spec_text.specs.Source.{Arrow, AutomatonDeclaration}

@@ -11,7 +11,7 @@ use Rattle.ranked_terms.specs.declared.term.Pattern.TheVariants.{Var, App}
 use Rattle.ranked_terms.specs.declared.term.Shape.{Shape}
 use Rattle.ranked_terms.specs.declared.term.Shape.TheVariants as shape
 use Rattle.trs_rules.specs.Rules.{RewriteRule, RewriteEquation, IsVariable, IsRule}
-use Rattle.trs_rules.proofs.RuleLaws.{linear_from_none, bound_from_none}
+use Rattle.trs_rules.specs.lemmas.RuleLaws.{linear_from_none, bound_from_none}
 use Rattle.timbuk_grammar.specs.declared.terminal.Role.{Role}
 use Rattle.timbuk_grammar.specs.declared.terminal.Role.TheVariants as role
 use Rattle.timbuk_grammar.specs.Grammar.{rule, equation}

@@ -10,7 +10,7 @@ use Rattle.std.proofs.lemmas.Cmp.{tied_itself}
 use Rattle.std.proofs.lemmas.List.Elements.{All-contains}
 use Rattle.std.proofs.lemmas.Map.Keys.{sorted_tail}
 use Rattle.std.proofs.lemmas.Map.Views.{All-after_first}
-use Rattle.ta_core.proofs.Members.{here, there, parts, none}
+use Rattle.list_laws.proofs.Members.{here, there, parts, none}
 use Rattle.spec_text.specs.SpecText.{IsAscendingSet}
 
 module _ {K : Type 0} {R : K → K → Ordering} (o : IsTotalOrder R) where

@@ -7,7 +7,7 @@ use Rattle.ranked_terms.specs.Names.{Symbol, names_of}
 use Rattle.ranked_terms.specs.Terms.{occurrences, firsts, variables_of}
 use Rattle.trs_rules.specs.Rules.{RewriteRule, RewriteEquation}
 use Rattle.trs_rules.specs.declared.entry.Entry.{Entry}
-use Rattle.ta_core.proofs.Orders.{trans_total, pair_total}
+use Rattle.ta_core.specs.lemmas.Orders.{trans_total, pair_total}
 use Rattle.ta_core.specs.TreeAutomaton.{TreeAutomaton}
 use Rattle.ta_core.specs.declared.spec.Spec.{Spec}
 use Rattle.timbuk_lex.specs.Lexing.{lexed}

@@ -14,7 +14,7 @@ use Rattle.ranked_terms.specs.declared.term.Shape.{Shape}
 use Rattle.ranked_terms.specs.declared.term.Shape.TheOpen as layer
 use Rattle.ranked_terms.specs.declared.term.Shape.TheVariants.{Var, State, App, rolls-Var, rolls-State, rolls-App}
 use Rattle.ranked_terms.specs.declared.term.Shape.TheFolds.{fold-roll-Shape}
-use Rattle.ranked_terms.proofs.TermLaws.{pattern_induction, occurrences_var, occurrences_app, pattern_is_over_var, pattern_is_over_app}
+use Rattle.ranked_terms.specs.lemmas.TermLaws.{pattern_induction, occurrences_var, occurrences_app, pattern_is_over_var, pattern_is_over_app}
 use Rattle.ta_core.specs.SpecRules.{shape_is_over, shape_is_over_step, shape_is_below, shape_is_below_step, shape_occurrences, shape_occurrences_step}
 use Rattle.spec_text.specs.Naming.{shape_of, shape_step}
 

@@ -10,7 +10,7 @@ use Rattle.std.proofs.lemmas.List.Elements.{All-weaker, All-filter, filter_passe
 use Rattle.std.proofs.lemmas.List.FromFn.{length-range_with_len, get_or-range_with_len, map-range_with_len_more}
 use Rattle.std.proofs.lemmas.List.Sums.{AllPass-from_list_all}
 use Rattle.std.proofs.lemmas.Map.Keys.{sorted_from_strictly_increasing}
-use Rattle.ta_core.specs.Orders.{IsUnion}
+use Rattle.list_laws.specs.Lists.{IsUnion}
 use Rattle.ta_core.specs.TreeAutomaton.{TreeAutomaton, IsTransOf, IsEpsOf, bare, trans_cmp, pair_cmp}
 use Rattle.ta_core.specs.declared.trans.Trans.{Trans}
 use Rattle.spec_text.specs.Declarations.{Started}

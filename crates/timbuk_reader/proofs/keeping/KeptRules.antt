@@ -2,7 +2,7 @@
 use Rattle.std.proofs.Common.{List, [], ◌∷◌, ◌++◌, All}
 use Rattle.std.proofs.lemmas.List.Elements.{All-weaker, All-push}
 use Rattle.trs_rules.specs.Rules.{RewriteRule, IsRule}
-use Rattle.trs_rules.proofs.RuleLaws.{bound_from_none, none_from_bound}
+use Rattle.trs_rules.specs.lemmas.RuleLaws.{bound_from_none, none_from_bound}
 use Rattle.timbuk_reader.specs.Kept.{IsKeptRule}
 
 kept_rule : (rule : RewriteRule) → IsRule rule → IsKeptRule rule

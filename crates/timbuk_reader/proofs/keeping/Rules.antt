@@ -12,7 +12,7 @@ use Rattle.ranked_terms.specs.Terms.{pattern_is_over, occurrences, firsts, varia
 use Rattle.ranked_terms.specs.declared.term.Shape.{Shape}
 use Rattle.ranked_terms.specs.declared.term.Pattern.{Pattern}
 use Rattle.trs_rules.specs.Rules.{RewriteRule, RewriteEquation, IsVariable, IsLinear, IsBound, IsRule}
-use Rattle.trs_rules.proofs.RuleLaws.{none_from_bound}
+use Rattle.trs_rules.specs.lemmas.RuleLaws.{none_from_bound}
 use Rattle.timbuk_reader.specs.Kept.{IsKeptRule}
 use Rattle.trs_rules.specs.Variables.{first_repeat, first_free}
 use Rattle.trs_rules.specs.declared.rule.RuleFault.{RuleFault}

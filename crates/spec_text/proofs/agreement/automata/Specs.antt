@@ -6,7 +6,7 @@ use Rattle.std.specs.declared.cmp.Ordering.{Ordering}
 use Rattle.std.proofs.lemmas.List.Elements.{All-map}
 use Rattle.ranked_terms.specs.Names.{Symbol, names_of}
 use Rattle.ta_core.specs.TreeAutomaton.{TreeAutomaton, bare, trans_cmp, pair_cmp}
-use Rattle.ta_core.proofs.Members.{here, none}
+use Rattle.list_laws.proofs.Members.{here, none}
 use Rattle.spec_text.specs.Declarations.{Declared, Started, Last, no_automaton, current, value_of}
 use Rattle.spec_text.specs.Source.{SymbolDeclaration, AutomatonDeclaration}
 use Rattle.spec_text.specs.Naming.{IsShort, signature_of, AreSymbols, AreNewNames, place_in, IsTransition, transitions_in, moves_in}

@@ -9,7 +9,7 @@ use Rattle.ranked_terms.specs.declared.term.Shape.{Shape}
 use Rattle.ranked_terms.specs.declared.term.Shape.TheVariants as shape
 use Rattle.ranked_terms.specs.declared.term.Shape.TheOpen as layer
 use Rattle.ranked_terms.specs.declared.term.Shape.TheViews.{out-Shape, out-roll-Shape}
-use Rattle.ranked_terms.proofs.TermLaws.{pattern_induction}
+use Rattle.ranked_terms.specs.lemmas.TermLaws.{pattern_induction}
 use Rattle.ta_core.specs.SpecRules.{shape_occurrences}
 use Rattle.spec_text.specs.lemmas.Shapes.{occurs_var, occurs_state, occurs_app, shape_of_var, shape_of_app}
 use Rattle.timbuk_grammar.specs.declared.terminal.Role.{Role}
