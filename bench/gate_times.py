@@ -1,17 +1,17 @@
 #!/usr/bin/env python3
 """Measures what the gate takes, and prints the tables of docs/TIMES.md.
 
-    bench/gate_times.py [NAME ..]    each crate, or the named ones: its proof, its tests and its must-fail edits, in processor minutes
-    bench/gate_times.py --gate       the whole gate from nothing, `rt ci`: its processor minutes and its minutes by the clock
+    bench/gate_times.py [NAME ..]   of each crate, or of the named ones, its proof, its tests and its must-fail edits
+    bench/gate_times.py --gate      the whole gate from nothing, `rt ci`
 
-All of it runs in a copy of the repository, in a folder of its own that is removed afterwards; the repository itself stays as it
-is. A measured crate is proved from nothing. The libraries below it are taken with the work that is kept of them, and are built first
-where there is none; that isn't counted. Each step runs with one job.
+All of it runs in a copy of the repository, in a folder of its own that is removed afterwards; the repository itself stays
+as it is. Times are processor minutes: the user's and the system's time of all processes of a step, so what else runs on the
+machine makes little difference. For the whole gate the minutes by the clock stand beside them.
 
-The tests of a crate are checked together with its code, which is proved once more for them, as in the gate. A crate's edits are
-tried in turn, each over the work of those before it. A processor minute is a minute of one processor, in the user's and the
-system's time of all processes that a step started. What isn't counted, but is part of the gate: the building of programs and tests by two
-compilers, and their runs, which take seconds.
+A measured crate is proved from nothing, each step with one job. The libraries below it are taken with the work that is kept
+of them, or built first, which isn't counted. The tests of a crate are checked together with its code, which is proved once
+more for them, and its edits are tried in turn, each over the work of those before it: all as in the gate. What the gate does
+besides isn't counted: two compilers build the programs and the tests, and these are run, which takes seconds.
 """
 
 import os
@@ -63,10 +63,11 @@ def copy_of(room, fresh):
 def processor_seconds(folder, *words):
     """The processor seconds that a command takes in the folder. It has to pass."""
     before = resource.getrusage(resource.RUSAGE_CHILDREN)
-    ran = subprocess.run(words, cwd=folder, stdin=subprocess.DEVNULL, stdout=subprocess.PIPE, stderr=subprocess.STDOUT, check=False)
+    how = {"stdin": subprocess.DEVNULL, "stdout": subprocess.PIPE, "stderr": subprocess.STDOUT, "errors": "replace"}
+    ran = subprocess.run(words, cwd=folder, check=False, **how)
     after = resource.getrusage(resource.RUSAGE_CHILDREN)
     if ran.returncode:
-        sys.exit(f"{' '.join(words)} failed in {folder}:\n" + ran.stdout.decode(errors="replace")[-3000:])
+        sys.exit(f"{' '.join(words)} failed in {folder}:\n{ran.stdout[-3000:]}")
     return after.ru_utime + after.ru_stime - before.ru_utime - before.ru_stime
 
 
@@ -141,7 +142,8 @@ def whole_gate():
         top = copy_of(room, set(crates()))
         start = time.monotonic()
         spent = processor_seconds(top, "rt", "ci")
-        print(f"rt ci from nothing, {os.cpu_count()} processors: {spent / 60:.0f} processor minutes, {(time.monotonic() - start) / 60:.0f} by the clock")
+        took = time.monotonic() - start
+        print(f"{os.cpu_count()} processors: {spent / 60:.0f} processor minutes, {took / 60:.0f} minutes by the clock")
 
 
 def main():

@@ -6,12 +6,12 @@
 
 makes specifications of growing size, whose states and transitions stand in random order, and runs the program on each.
 
-With one program it prints the time for a byte and, for each line but a family's first, by how much it differs from the line before. A
-ratio near 1 is linear growth. PROGRAM is the built program; without it that of this repository is taken.
+With one program it prints the time for a byte and, for each line but a family's first, by how much it differs from the line
+before. A ratio near 1 is linear growth. PROGRAM is the built program; without it that of this repository is taken.
 
-With two programs it runs them in turn on each specification and prints the time of each and how many times the old one's the new
-one's is. A ratio below 1 says that the new one is faster. Their answers have to be the same. Else no answer depends on a time, and
-nothing is tested here.
+With two programs it runs them in turn on each specification, and prints the time of each and how many times the old one's
+the new one's is. A ratio below 1 says that the new one is faster. Nothing is tested here, but that answers which differ are
+marked.
 
 Families:
   reading   no rule, one automaton; what takes time is reading
