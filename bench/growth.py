@@ -5,6 +5,7 @@
     bench/growth.py OLD NEW
 
 makes specifications of growing size, whose states and transitions stand in random order, and runs the program on each.
+Times are those of the processor, the shortest of several runs.
 
 With one program it prints the time for a byte and, for each line but a family's first, by how much it differs from the line
 before. A ratio near 1 is linear growth. PROGRAM is the built program; without it that of this repository is taken.
@@ -28,7 +29,10 @@ import tempfile
 import time
 
 HOME = os.path.dirname(os.path.dirname(os.path.abspath(__file__)))
+# A program is run so often at least, and more often where a run is short: as many times as fit into these seconds.
 RUNS = 5
+MOST_RUNS = 50
+ENOUGH = 0.5
 
 
 def shuffled(items, chance):
@@ -88,18 +92,28 @@ FAMILIES = [
 ]
 
 
+def one_run(program, folder):
+    """The processor seconds of one run on the file F of the folder, and the answer."""
+    with subprocess.Popen([program, "complete", "F"], cwd=folder, stdout=subprocess.PIPE) as run:
+        answer = run.stdout.read().decode().strip()
+        _, status, used = os.wait4(run.pid, 0)
+        run.returncode = os.WEXITSTATUS(status)
+    return used.ru_utime + used.ru_stime, answer
+
+
 def seconds(programs, text):
     """For each of the programs the shortest time of some runs, and its answer. The programs are run in turn."""
     best, answers = [float("inf")] * len(programs), [""] * len(programs)
     with tempfile.TemporaryDirectory() as folder:
         with open(os.path.join(folder, "F"), "w", encoding="ascii") as file:
             file.write(text)
-        for _ in range(RUNS):
+        began = time.perf_counter()
+        for count in range(MOST_RUNS):
+            if count >= RUNS and time.perf_counter() - began > ENOUGH * len(programs):
+                break
             for at, program in enumerate(programs):
-                start = time.perf_counter()
-                done = subprocess.run([program, "complete", "F"], cwd=folder, stdout=subprocess.PIPE, check=False)
-                best[at] = min(best[at], time.perf_counter() - start)
-                answers[at] = done.stdout.decode().strip()
+                took, answers[at] = one_run(program, folder)
+                best[at] = min(best[at], took)
     return best, answers
 
 
