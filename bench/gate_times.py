@@ -49,13 +49,13 @@ def lowest_first(uses):
     return found
 
 
-def copy_of(room, fresh):
-    """A copy of the repository, without the work that is kept of the fresh crates."""
+def copy_of(room, kept):
+    """A copy of the repository, with the work that is kept of these crates alone."""
 
     def left_out(folder, names):
         inside = os.path.relpath(folder, HOME).split(os.sep)
-        is_fresh = inside[0] == "crates" and len(inside) == 2 and inside[1] in fresh
-        return [it for it in names if it == ".git" or (it == "out" and is_fresh)]
+        is_kept = inside[0] == "crates" and len(inside) == 2 and inside[1] in kept
+        return [it for it in names if it == ".git" or (it == "out" and not is_kept)]
 
     return shutil.copytree(HOME, os.path.join(room, "copy"), ignore=left_out, symlinks=True)
 
@@ -119,7 +119,8 @@ def each_crate(names):
     sums = [0.0, 0.0, 0.0]
     print("| crate | proof | tests | edits | in all |\n|---|---|---|---|---|")
     with tempfile.TemporaryDirectory(prefix="gate-times-") as room:
-        top = copy_of(room, set(wanted))
+        below_all = set().union(*(closure(uses, name) for name in wanted))
+        top = copy_of(room, below_all - set(wanted))
         for name in wanted:
             below = [it for it in order if it in closure(uses, name)]
             *times, count = times_of(top, name, below)
@@ -139,7 +140,7 @@ def closure(uses, name):
 
 def whole_gate():
     with tempfile.TemporaryDirectory(prefix="gate-times-") as room:
-        top = copy_of(room, set(crates()))
+        top = copy_of(room, set())
         start = time.monotonic()
         spent = processor_seconds(top, "rt", "ci")
         took = time.monotonic() - start
