@@ -1,11 +1,18 @@
 #!/usr/bin/env python3
-"""Shows how the program's time grows with its input.
+"""Shows how the program's time grows with its input, or how the times of two programs compare.
 
     bench/growth.py [PROGRAM]
+    bench/growth.py OLD NEW
 
-makes specifications of growing size, whose states and transitions stand in random order, runs the program on each, and prints the
-time for a byte and, for each line but a family's first, by how much it differs from the line before. A ratio near 1 is linear growth.
-PROGRAM is the built program; without it that of this repository is taken. Nothing is tested here: no answer depends on a time.
+makes specifications of growing size, whose states and transitions stand in random order, and runs the program on each.
+Times are those of the processor, the shortest of several runs.
+
+With one program it prints the time for a byte and, for each line but a family's first, by how much it differs from the line
+before. A ratio near 1 is linear growth. PROGRAM is the built program; without it that of this repository is taken.
+
+With two programs it runs them in turn on each specification, and prints the time of each and how many times the old one's
+the new one's is. A ratio below 1 says that the new one is faster. Nothing is tested here, but that answers which differ are
+marked.
 
 Families:
   reading   no rule, one automaton; what takes time is reading
@@ -22,7 +29,10 @@ import tempfile
 import time
 
 HOME = os.path.dirname(os.path.dirname(os.path.abspath(__file__)))
+# A program is run so often at least, and more often where a run is short: as many times as fit into these seconds.
 RUNS = 5
+MOST_RUNS = 50
+ENOUGH = 0.5
 
 
 def shuffled(items, chance):
@@ -82,34 +92,69 @@ FAMILIES = [
 ]
 
 
-def seconds(program, text):
-    """The shortest time of some runs, and the answer."""
-    best, answer = float("inf"), b""
+def one_run(program, folder):
+    """The processor seconds of one run on the file F of the folder, and the answer."""
+    with subprocess.Popen([program, "complete", "F"], cwd=folder, stdout=subprocess.PIPE) as run:
+        answer = run.stdout.read().decode().strip()
+        _, status, used = os.wait4(run.pid, 0)
+        run.returncode = os.WEXITSTATUS(status)
+    return used.ru_utime + used.ru_stime, answer
+
+
+def seconds(programs, text):
+    """For each of the programs the shortest time of some runs, and its answer. The programs are run in turn."""
+    best, answers = [float("inf")] * len(programs), [""] * len(programs)
     with tempfile.TemporaryDirectory() as folder:
         with open(os.path.join(folder, "F"), "w", encoding="ascii") as file:
             file.write(text)
-        for _ in range(RUNS):
-            start = time.perf_counter()
-            done = subprocess.run([program, "complete", "F"], cwd=folder, stdout=subprocess.PIPE, check=False)
-            best, answer = min(best, time.perf_counter() - start), done.stdout
-    return best, answer.decode().strip()
+        began = time.perf_counter()
+        for count in range(MOST_RUNS):
+            if count >= RUNS and time.perf_counter() - began > ENOUGH * len(programs):
+                break
+            for at, program in enumerate(programs):
+                took, answers[at] = one_run(program, folder)
+                best[at] = min(best[at], took)
+    return best, answers
 
 
-def main():
-    program = os.path.abspath(sys.argv[1]) if len(sys.argv) > 1 else os.path.join(HOME, "crates/timbuk_cli/out/timbuk_cli")
-    print(f"{'family':8} {'states':>7} {'bytes':>8} {'seconds':>8} {'ns/byte':>8} {'ratio':>6}  answer")
+def texts():
+    """The family, the number of states and the text of each specification that isn't too long."""
     for family, sizes in FAMILIES:
-        before = None
         for count in sizes:
             text = family(count, random.Random(count))
             if len(text) > 1048576:
                 print(f"{family.__name__:8} {count:7} {len(text):8}  too long, left out")
-                continue
-            took, answer = seconds(program, text)
-            each = took / len(text) * 1e9
-            ratio = "" if before is None else f"{each / before:.2f}"
-            print(f"{family.__name__:8} {count:7} {len(text):8} {took:8.3f} {each:8.1f} {ratio:>6}  {answer}")
-            before = each
+            else:
+                yield family.__name__, count, text
+
+
+def growth(program):
+    print(f"{'family':8} {'states':>7} {'bytes':>8} {'seconds':>8} {'ns/byte':>8} {'ratio':>6}  answer")
+    before = {}
+    for family, count, text in texts():
+        [took], [answer] = seconds([program], text)
+        each = took / len(text) * 1e9
+        ratio = f"{each / before[family]:.2f}" if family in before else ""
+        print(f"{family:8} {count:7} {len(text):8} {took:8.3f} {each:8.1f} {ratio:>6}  {answer}")
+        before[family] = each
+
+
+def compare(old, new):
+    print(f"{'family':8} {'states':>7} {'bytes':>8} {'old s':>8} {'new s':>8} {'new/old':>7}  answer")
+    for family, count, text in texts():
+        times, answers = seconds([old, new], text)
+        answer = answers[1] if answers[0] == answers[1] else f"DIFFERENT: {answers[0]}; {answers[1]}"
+        print(f"{family:8} {count:7} {len(text):8} {times[0]:8.3f} {times[1]:8.3f} {times[1] / times[0]:7.2f}  {answer}")
+
+
+def main():
+    programs = [os.path.abspath(it) for it in sys.argv[1:]] or [os.path.join(HOME, "crates/timbuk_cli/out/timbuk_cli")]
+    if len(programs) == 1:
+        growth(programs[0])
+    elif len(programs) == 2:
+        compare(*programs)
+    else:
+        sys.exit(__doc__.strip())
 
 
 if __name__ == "__main__":
