@@ -111,7 +111,7 @@ impl<R: Files> Shelf for FileShelf<'_, R> {
         if let Some(opened) = self.files.get_mut(name) {
             return opened.take(self.rt, name, buf);
         }
-        // The file is kept before it is first read, so that no byte is lost at want of memory.
+        // The file is kept before it is first read, so that no byte is lost on running out of memory.
         let Ok(key) = String::from_str(self.alloc, name) else {
             return Err(TakeError::Memory);
         };

@@ -27,8 +27,8 @@ const CHUNK: usize = 8192;
 /// Reads the file `name` from where it stands to its end.
 ///
 /// `Fault` comes only where the shelf's count of faults of this name rose. `TooLong` comes just where `limit + 1` bytes
-/// were taken, which is the most that is ever taken; `limit` is below the greatest `usize`. `Memory` is want of memory.
-/// After a refusal, what was taken is gone from the shelf. Other names stay as they were.
+/// were taken, which is the most that is ever taken; `limit` is below the greatest `usize`. `Memory` is running out of
+/// memory. After a refusal, what was taken is gone from the shelf. Other names stay as they were.
 pub fn read_all<F: Shelf>(
     alloc: Global,
     shelf: &mut F,
