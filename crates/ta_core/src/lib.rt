@@ -26,6 +26,3 @@ pub use safety::accepted_means_safe;
 pub use spec::Spec;
 pub use state_set::StateSet;
 pub use trans::Trans;
-
-#[cfg(test)]
-mod tests;
