@@ -27,7 +27,7 @@ impl Files {
         }
     }
 
-    /// Adds a file, or begins the one of this name anew. At want of memory nothing changes.
+    /// Adds a file, or begins the one of this name anew. On running out of memory nothing changes.
     #[tactic(auto, using(std::proofs::lemmas::Map::Text::text_keys))]
     pub fn add(&mut self, name: &str, bytes: &[u8]) -> Result<(), AllocError>
         ensures added { OnOk result (left_in self.new name.now ≡ Some bytes.now) }

@@ -30,8 +30,8 @@ impl HonestShelf {
         }
     }
 
-    /// Adds a file, or replaces the one of this name, which then begins anew. The only error is want of memory; then
-    /// nothing changes.
+    /// Adds a file, or replaces the one of this name, which then begins anew. The only error is running out of memory;
+    /// then nothing changes.
     pub fn add(&mut self, name: &str, bytes: &[u8]) -> Result<(), AllocError>
         ensures added { OnOk result (left_of self.new name.now ≡ bytes.now) }
         ensures refused { OnErr result (left_of self.new name.now ≡ left_of self.old name.now) }

@@ -18,6 +18,7 @@ mod plan;
 mod shelf;
 mod sink;
 mod std_sink;
+mod system;
 mod whole;
 
 pub use file_shelf::FileShelf;
@@ -27,8 +28,5 @@ pub use mem_shelf::MemShelf;
 pub use mem_sink::MemSink;
 pub use shelf::{Shelf, TakeError};
 pub use sink::{Failed, Sink};
-pub use std_sink::StdSink;
+pub use std_sink::{StdSink, WriterSink};
 pub use whole::{ReadError, read_all, write_all};
-
-#[cfg(test)]
-mod tests;

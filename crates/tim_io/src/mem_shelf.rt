@@ -1,5 +1,6 @@
 //! Files in memory, which fail where they are told to.
-ghost use Rattle.std.specs.Prelude.{◌≡◌, ℕ, ◌<◌, ◌≤◌, ◌⊎◌, ◌↔◌, List, Some, None, Ok, length, IfOk, IfSome, IsErr, IsErrOf, OnOk, OnErr};
+ghost use Rattle.std.specs.Prelude.{◌≡◌, ℕ, ◌<◌, ◌≤◌, ◌⊎◌, ◌↔◌, List, Some, None, Ok};
+ghost use Rattle.std.specs.Prelude.{length, IfOk, IfSome, IsErr, IsErrOf, OnOk, OnErr};
 ghost use Rattle.std.specs.Option.{option_copied};
 ghost use Rattle.tim_io.specs.Causes.{one_more, Rose};
 ghost use Rattle.tim_io.specs.Pieces.{share};
@@ -39,8 +40,8 @@ impl MemShelf {
         }
     }
 
-    /// Adds a file, or replaces the one of this name, which then begins anew. The only error is want of memory; then
-    /// nothing changes.
+    /// Adds a file, or replaces the one of this name, which then begins anew. The only error is running out of memory;
+    /// then nothing changes.
     pub fn add(&mut self, name: &str, bytes: &[u8]) -> Result<(), AllocError>
         ensures added { OnOk result (left_of self.new name.now ≡ Some bytes.now) }
         ensures refused { OnErr result (left_of self.new name.now ≡ left_of self.old name.now) }

@@ -1,5 +1,6 @@
 //! An output in memory, which fails where it is told to.
-ghost use Rattle.std.specs.Prelude.{◌≡◌, ◌+◌, ◌<◌, ◌≤◌, ◌⊎◌, ◌↔◌, [], Some, Ok, length, IfOk, IsErr, OnOk, OnErr, vec_len, vec_capacity};
+ghost use Rattle.std.specs.Prelude.{◌≡◌, ◌+◌, ◌<◌, ◌≤◌, ◌⊎◌, ◌↔◌, [], Some, Ok, length};
+ghost use Rattle.std.specs.Prelude.{IfOk, IsErr, OnOk, OnErr, vec_len, vec_capacity};
 ghost use Rattle.std.specs.Io.KnownBytes.{WriteAppends};
 ghost use Rattle.tim_io.specs.Causes.{one_more, Rose};
 ghost use Rattle.tim_io.specs.Pieces.{share};
@@ -27,7 +28,7 @@ impl MemSink {
 
     /// A sink with nothing written. It reserves `room` bytes, so that `put` takes no memory. It takes at most `piece`
     /// bytes a call, which is at least 1, and fails at the calls whose numbers are in `fails`. Calls are counted from
-    /// 1; those with an empty piece are not counted. The only error is want of memory.
+    /// 1; those with an empty piece are not counted. The only error is running out of memory.
     pub fn new(
         alloc: Global,
         room: usize,

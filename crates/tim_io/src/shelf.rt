@@ -22,7 +22,8 @@ pub trait Shelf {
 
     /// Takes the next bytes of the file `name` into the front of `buf`, and answers how many: at least one where any
     /// is left and `buf` is not empty. So 0 is the end, unless `buf` is empty; then nothing changes. `Failed` comes
-    /// only where the count of faults of this name rose, and `Memory` only at want of memory. A refusal takes nothing.
+    /// only where the count of faults of this name rose, and `Memory` only on running out of memory. A refusal takes
+    /// nothing.
     fn take(&mut self, name: &str, buf: &mut [u8]) -> Result<usize, TakeError>
         ensures bound { IfOk result (λ n. n ≤ length buf.new) }
         ensures takes { Takes (left self.old name.now) (left self.new name.now) result buf.new }

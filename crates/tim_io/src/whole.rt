@@ -1,9 +1,9 @@
 //! Whole files, and whole texts.
-ghost use Rattle.std.specs.Prelude.{ℕ, ◌<◌, ◌≤◌, length, take, IsErrOf, IfSome, OnOk, OnErr};
+ghost use Rattle.std.specs.Prelude.{◌<◌, ◌≤◌, IsErrOf, IfSome, OnOk, OnErr};
 ghost use Rattle.std.specs.Io.KnownBytes.{Appends};
 ghost use Rattle.tim_io.specs.Causes.{Rose};
 ghost use Rattle.tim_io.specs.Shelves.{OthersStay};
-ghost use Rattle.tim_io.specs.Whole.{Reads, GivesWhole};
+ghost use Rattle.tim_io.specs.Whole.{Reads, GivesWhole, AppendsPart};
 
 use crate::shelf::{Shelf, TakeError};
 use crate::sink::{Failed, Sink};
@@ -27,8 +27,8 @@ const CHUNK: usize = 8192;
 /// Reads the file `name` from where it stands to its end.
 ///
 /// `Fault` comes only where the shelf's count of faults of this name rose. `TooLong` comes just where `limit + 1` bytes
-/// were taken, which is the most that is ever taken; `limit` is below the greatest `usize`. `Memory` is want of memory.
-/// After a refusal, what was taken is gone from the shelf. Other names stay as they were.
+/// were taken, which is the most that is ever taken; `limit` is below the greatest `usize`. `Memory` is running out of
+/// memory. After a refusal, what was taken is gone from the shelf. Other names stay as they were.
 pub fn read_all<F: Shelf>(
     alloc: Global,
     shelf: &mut F,
@@ -70,9 +70,7 @@ pub fn read_all<F: Shelf>(
 /// `Failed` comes only where the sink's count of faults rose; then some of the bytes, from the front, are written.
 pub fn write_all<K: Sink>(sink: &mut K, bytes: &[u8]) -> Result<(), Failed>
     ensures whole { OnOk result (Appends (K.written sink.old) (K.written sink.new) bytes.now) }
-    ensures prefix { OnErr result
-        ((n : ℕ) × (n < length bytes.now)
-        × Appends (K.written sink.old) (K.written sink.new) (take n bytes.now)) }
+    ensures prefix { OnErr result (AppendsPart (K.written sink.old) (K.written sink.new) bytes.now) }
     ensures later { K.faults sink.old ≤ K.faults sink.new }
     ensures cause { OnErr result (Rose (K.faults sink.old) (K.faults sink.new)) }
 {
