@@ -59,7 +59,8 @@ impl Model for Automaton {
 
     ghost view = { λ a. record { states = a.states; next = a.next; finals = a.finals; trans = a.trans; eps = a.eps } };
 
-    ghost invariant = { λ a. IsKept (record { states = a.states; next = a.next; finals = a.finals; trans = a.trans; eps = a.eps }) };
+    ghost invariant = { λ a. IsKept
+        (record { states = a.states; next = a.next; finals = a.finals; trans = a.trans; eps = a.eps }) };
 }
 
 impl Automaton {
@@ -179,7 +180,8 @@ impl Automaton {
     /// `MAX_STATES`. After an error the automaton is as before.
     pub fn add_state(&mut self) -> Result<u32, StateError>
         ensures number { IfOk result (λ q. q ≡ self.old.next) }
-        ensures ok { OnOk result (self.new ≡ record self.old { states = self.old.states ++ self.old.next ∷ []; next = self.old.next + 1 }) }
+        ensures ok { OnOk result (self.new ≡
+            record self.old { states = self.old.states ++ self.old.next ∷ []; next = self.old.next + 1 }) }
         ensures full { IsErrOf result StateError.Full ↔ (self.old.next ≡ 16384) }
         ensures err { OnErr result (self.new ≡ self.old) }
     {
@@ -197,7 +199,8 @@ impl Automaton {
         requires args { All (Contains self.old.states) args.now }
         requires to { Contains self.old.states to }
         ensures new { IfOk result (λ new. IsTrue new ↔ ¬ Contains self.old.trans (trans_of sym args.now to)) }
-        ensures ok { OnOk result (self.new ≡ record self.old { trans = insert_key trans_cmp self.old.trans (trans_of sym args.now to) }) }
+        ensures ok { OnOk result (self.new ≡
+            record self.old { trans = insert_key trans_cmp self.old.trans (trans_of sym args.now to) }) }
         ensures members { OnOk result (IsUnion self.old.trans (trans_of sym args.now to ∷ []) self.new.trans) }
         ensures err { OnErr result (self.new ≡ self.old) }
     {

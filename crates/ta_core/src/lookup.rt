@@ -23,7 +23,8 @@ impl Automaton {
 
     /// The transitions of the symbol whose arguments begin with these states, by arguments and target.
     pub fn trans_from(&self, sym: u32, prefix: &[u32]) -> &[Trans]
-        ensures members { (t : Transition) → Contains result.now t ↔ (Contains self.now.trans t × (t.sym ≡ sym) × ((rest : List ℕ) × (t.args ≡ prefix.now ++ rest))) }
+        ensures members { (t : Transition) → Contains result.now t ↔
+            (Contains self.now.trans t × (t.sym ≡ sym) × ((rest : List ℕ) × (t.args ≡ prefix.now ++ rest))) }
         ensures sound { IsSound self.now }
     {
         let all = self.trans();

@@ -65,7 +65,8 @@ impl Reached {
 
     // Adds the state to which each of the epsilon transitions leads, after those that are there.
     fn add_targets(&mut self, eps: &[(u32, u32)]) -> Result<(), AllocError>
-        ensures members { OnOk result ((q : ℕ) → Contains self.new q ↔ (Contains self.old q ⊎ ((p : ℕ) × Contains eps.now (p, q)))) }
+        ensures members { OnOk result ((q : ℕ) → Contains self.new q ↔
+            (Contains self.old q ⊎ ((p : ℕ) × Contains eps.now (p, q)))) }
         ensures kept { OnOk result ((rest : List ℕ) × (self.new ≡ self.old ++ rest)) }
     {
         for (_, to) in eps {

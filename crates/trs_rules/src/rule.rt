@@ -59,10 +59,12 @@ impl Rule {
         ensures rule { IfOk result IsRule }
 
         ensures variable_left { (result ≡ Err RuleFault.VariableLeft) ↔ IsVariable left }
-        ensures not_left_linear { (var : ℕ) → (result ≡ Err (RuleFault.NotLeftLinear var)) ↔ (first_repeat (occurrences left) ≡ Some var) }
+        ensures not_left_linear { (var : ℕ) → (result ≡ Err (RuleFault.NotLeftLinear var)) ↔
+            (first_repeat (occurrences left) ≡ Some var) }
         ensures free_variable { (var : ℕ) → (result ≡ Err (RuleFault.FreeVariable var)) ↔ ((IsVariable left → ⊥) × IsLinear left
             × (first_free (occurrences left) (occurrences right) ≡ Some var)) }
-        ensures too_many_variables { (result ≡ Err RuleFault.TooManyVariables) ↔ ((IsVariable left → ⊥) × IsLinear left × IsBound left right
+        ensures too_many_variables { (result ≡ Err RuleFault.TooManyVariables) ↔
+            ((IsVariable left → ⊥) × IsLinear left × IsBound left right
             × (16 < length (variables_of left))) }
     {
         if let Pattern::Var(_) = left {
