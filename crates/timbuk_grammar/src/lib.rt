@@ -11,6 +11,3 @@ mod words;
 pub use laws::{next_law, no_text_has_two_derivations, parts_law};
 pub use terminal::{Role, Terminal};
 pub use words::{is_closed_word, is_reserved_word};
-
-#[cfg(test)]
-mod tests;

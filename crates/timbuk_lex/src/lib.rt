@@ -14,6 +14,3 @@ pub use lex::{Ending, Lexed, lex_of};
 pub use lexeme::{Lexeme, Slice, TokenKind};
 pub use piece::LexFault;
 pub use place::{Place, end_of};
-
-#[cfg(test)]
-mod tests;
