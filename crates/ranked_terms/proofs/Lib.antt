@@ -4,3 +4,8 @@ pub mod TermLaws
 pub mod InstanceLaws
 pub mod VariableLaws
 pub mod Listings
+pub mod EqLaws
+pub mod MatchingLaws
+pub mod BindingLaws
+pub mod PositionLaws
+pub mod BoundLaws

@@ -3,6 +3,8 @@ pub mod Names
 pub mod SignatureRules
 pub mod Terms
 pub mod Laws
+pub mod Matching
+pub mod Positions
 pub mod Listings
 pub mod ListingLaws
 pub mod formers

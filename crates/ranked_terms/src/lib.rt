@@ -4,15 +4,21 @@
 //! and keeps its arguments in a `Seq`, which contracts see as a list.
 #![tactic(auto)]
 
+mod binding;
 pub mod laws;
+mod matching;
+mod measures;
 mod name;
 mod position;
 mod seq;
 mod signature;
+mod subterm;
 mod term;
 #[cfg(test)]
 mod tests;
 
+pub use binding::Binding;
+pub use matching::{instance, match_term};
 pub use name::Name;
 pub use position::Position;
 pub use seq::Seq;

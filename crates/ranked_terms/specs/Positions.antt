@@ -1,0 +1,34 @@
+-- Subterms at positions (Baader and Nipkow, Term Rewriting and All That, section 3.1): a position is the list of argument numbers on the way from the root, counted from 1.
+use Rattle.std.specs.Prelude.{◌≡◌, ℕ, ◌+◌, List, [], ◌∷◌, ◌++◌, length}
+use Rattle.ranked_terms.specs.Terms.{node}
+use Rattle.ranked_terms.specs.declared.term.Term.{Term}
+
+-- u is the k-th argument of t, counted from 1
+pub record Argument (k : ℕ) (t u : Term) : Type 0 where
+  pub sym : ℕ
+  pub before : List Term
+  pub after : List Term
+  pub place : k ≡ length before + 1
+  pub is : t ≡ node sym (before ++ u ∷ after)
+
+-- t is s with its k-th argument, counted from 1, changed by Q
+pub record InArgument (Q : Term → Term → Type 0) (k : ℕ) (s t : Term) : Type 0 where
+  pub sym : ℕ
+  pub before : List Term
+  pub u : Term
+  pub v : Term
+  pub after : List Term
+  pub place : k ≡ length before + 1
+  pub from : s ≡ node sym (before ++ u ∷ after)
+  pub to : t ≡ node sym (before ++ v ∷ after)
+  pub changes : Q u v
+
+-- u is the subterm of t at the position
+abbrev pub SubtermAt : List ℕ → Term → Term → Type 0
+SubtermAt [] t u = u ≡ t
+SubtermAt (k ∷ position) t u = (v : Term) × Argument k t v × SubtermAt position v u
+
+-- u is t with its subterm at the position replaced by v
+abbrev pub ReplacedAt : Term → List ℕ → Term → Term → Type 0
+ReplacedAt v [] t u = u ≡ v
+ReplacedAt v (k ∷ position) t u = InArgument (ReplacedAt v position) k t u
