@@ -9,3 +9,4 @@ pub mod MatchingLaws
 pub mod BindingLaws
 pub mod PositionLaws
 pub mod BoundLaws
+pub mod ChangeLaws

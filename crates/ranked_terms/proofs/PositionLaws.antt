@@ -17,11 +17,11 @@ at_seam : (before : List Term) (v : Term) (after : List Term) (d : Term) → get
 at_seam [] v after d = refl
 at_seam (x ∷ before) v after d = at_seam before v after d
 
-args_are : (t : Term) (f : ℕ) (ts : List Term) → t ≡ node f ts → args_of t ≡ ts
+pub args_are : (t : Term) (f : ℕ) (ts : List Term) → t ≡ node f ts → args_of t ≡ ts
 args_are t f ts e = ap args_of e ∙ ap (λ o. o.args) (out_node f ts)
 
 -- an argument is the one at its place
-argument_is : (k : ℕ) (t v d : Term) → Argument k t v → (k ≤ length (args_of t)) × (1 ≤ k) × (get_or (args_of t) (k - 1) d ≡ v)
+pub argument_is : (k : ℕ) (t v d : Term) → Argument k t v → (k ≤ length (args_of t)) × (1 ≤ k) × (get_or (args_of t) (k - 1) d ≡ v)
 argument_is k t v d a =
     let e = args_are t a.sym (a.before ++ v ∷ a.after) a.is in
     let p = a.place in (
@@ -30,7 +30,7 @@ argument_is k t v d a =
       ap (λ ts. get_or ts (k - 1) d) e ∙ (ap (λ n. get_or (a.before ++ v ∷ a.after) n d) (let q : k - 1 ≡ length a.before = omega (arith, p) in q) ∙ at_seam a.before v a.after d),
     )
 
-argument_at : (k : ℕ) (t d : Term) → 1 ≤ k → k ≤ length (args_of t) → Argument k t (get_or (args_of t) (k - 1) d)
+pub argument_at : (k : ℕ) (t d : Term) → 1 ≤ k → k ≤ length (args_of t) → Argument k t (get_or (args_of t) (k - 1) d)
 argument_at k t d l m =
     let ts = args_of t in
     let lt : k - 1 < length ts = omega (arith, l, m) in
@@ -62,7 +62,7 @@ none_some x e = cc
 same_some : {X : Type 0} (x y : X) → Some x ≡ Some y → x ≡ y
 same_some x y e = cc
 
-drop-seam : (before : List Term) (v : Term) (after : List Term) → drop (suc (length before)) (before ++ v ∷ after) ≡ after
+pub drop-seam : (before : List Term) (v : Term) (after : List Term) → drop (suc (length before)) (before ++ v ∷ after) ≡ after
 drop-seam [] v after = refl
 drop-seam (x ∷ before) v after = drop-seam before v after
 

@@ -1,5 +1,6 @@
 -- Subterms at positions (Baader and Nipkow, Term Rewriting and All That, section 3.1): a position is the list of argument numbers on the way from the root, counted from 1.
-use Rattle.std.specs.Prelude.{◌≡◌, ℕ, ◌+◌, List, [], ◌∷◌, ◌++◌, length}
+use Rattle.std.specs.Prelude.{◌≡◌, ℕ, ◌+◌, List, [], ◌∷◌, ◌++◌, length, Option, Some, None}
+use Rattle.std.specs.Borrow.{Bor}
 use Rattle.ranked_terms.specs.Terms.{node}
 use Rattle.ranked_terms.specs.declared.term.Term.{Term}
 
@@ -32,3 +33,12 @@ SubtermAt (k ∷ position) t u = (v : Term) × Argument k t v × SubtermAt posit
 abbrev pub ReplacedAt : Term → List ℕ → Term → Term → Type 0
 ReplacedAt v [] t u = u ≡ v
 ReplacedAt v (k ∷ position) t u = InArgument (ReplacedAt v position) k t u
+
+-- s and t are the same but for their k-th arguments
+abbrev pub IsSameBut : ℕ → Term → Term → Type 0
+IsSameBut k = InArgument (λ u v. Unit {0}) k
+
+-- what two references point to
+abbrev pub both_now : Option (Bor Term × Bor Term) → Option (Term × Term)
+both_now None = None
+both_now (Some pair) = Some (pair.0.now, pair.1.now)
