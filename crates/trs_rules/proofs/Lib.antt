@@ -5,3 +5,6 @@ pub mod OverLaws
 pub mod VariableLaws
 pub mod RepeatLaws
 pub mod RuleLaws
+pub mod RootLaws
+pub mod PartLaws
+pub mod DerivationLaws
