@@ -10,3 +10,4 @@ pub mod BindingLaws
 pub mod PositionLaws
 pub mod BoundLaws
 pub mod ChangeLaws
+pub mod PreorderLaws

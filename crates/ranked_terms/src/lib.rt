@@ -10,6 +10,7 @@ mod matching;
 mod measures;
 mod name;
 mod position;
+mod positions;
 mod seq;
 mod signature;
 mod subterm;
