@@ -1,5 +1,5 @@
 -- Steps from a term, and derivations: a start, and steps with the rule, the position and the term of each (Baader and Nipkow, Term Rewriting and All That, sections 2.1 and 4.2).
-use Rattle.std.specs.Prelude.{◌≡◌, ◌↔◌, ℕ, ◌<◌, ◌+◌, List, ◌∷◌, map, length, Some, Contains}
+use Rattle.std.specs.Prelude.{◌≡◌, ◌↔◌, ◌⊎◌, ℕ, ◌<◌, ◌+◌, List, ◌∷◌, map, length, Some, Contains}
 use Rattle.std.specs.List.{slice_get}
 use Rattle.std.specs.List.Sorted.{IsStrictlySortedBy}
 use Rattle.std.specs.declared.cmp.Ordering.{Ordering}
@@ -9,7 +9,7 @@ use Rattle.ranked_terms.specs.Terms.{instance_of}
 use Rattle.ranked_terms.specs.declared.term.Term.{Term}
 use Rattle.trs_rules.specs.Rules.{RewriteRule}
 use Rattle.trs_rules.specs.Steps.{StepAt}
-use Rattle.trs_rules.specs.declared.successors.Successor.{Successor}
+use Rattle.trs_rules.specs.declared.successor.Successor.{Successor}
 use Rattle.trs_rules.specs.declared.derivation.DStep.{DStep}
 use Rattle.trs_rules.specs.declared.derivation.Derivation.{Derivation}
 
@@ -28,6 +28,15 @@ successor_order x y = ordering_then (nat_cmp x.rule y.rule) (slice_cmp nat_cmp x
 -- the list has all steps from t, each once, by rule and then position
 pub record AreSuccessors (R : List RewriteRule) (t : Term) (list : List Successor) : Type 0 where
   pub members : (s : Successor) → Contains list s ↔ StepAt R s.rule s.at t s.term
+  pub sorted : IsStrictlySortedBy successor_order list
+
+-- ---- for private contracts: the steps that are found once so many rules, and so many positions for the next one, are tried
+
+abbrev pub IsTried : ℕ → List (List ℕ) → Successor → Type 0
+IsTried rules positions s = (s.rule < rules) ⊎ ((s.rule ≡ rules) × Contains positions s.at)
+
+pub record AreStepsUpTo (R : List RewriteRule) (t : Term) (rules : ℕ) (positions : List (List ℕ)) (list : List Successor) : Type 0 where
+  pub members : (s : Successor) → Contains list s ↔ (IsTried rules positions s × StepAt R s.rule s.at t s.term)
   pub sorted : IsStrictlySortedBy successor_order list
 
 -- ---- derivations

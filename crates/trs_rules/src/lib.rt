@@ -13,7 +13,7 @@ mod occurrences;
 mod rule;
 mod sigma;
 mod step;
-mod successors;
+mod successor;
 #[cfg(test)]
 mod tests;
 mod variables;
@@ -23,5 +23,5 @@ pub use entry::Entry;
 pub use equation::Equation;
 pub use rule::{Rule, RuleFault, each_is_rule};
 pub use sigma::{Pair, Sigma};
-pub use successors::Successor;
+pub use successor::{Successor, successors};
 pub use variables::TooManyVariables;
