@@ -11,3 +11,5 @@ pub mod PositionLaws
 pub mod BoundLaws
 pub mod ChangeLaws
 pub mod PreorderLaws
+pub mod TextLaws
+pub mod ReadLaws

@@ -1,7 +1,7 @@
 -- The positions of a term in preorder.
-use Rattle.std.proofs.Common.{◌≡◌, ◌↔◌, ◌⊎◌, inl, inr, ℕ, zero, suc, ◌+◌, ◌^◌, ◌<◌, ◌≤◌, Bool, true, false, ◌&&◌, List, [], ◌∷◌, ◌++◌, map, length, take, get_or, refl, sym, ap, subst, ◌∙◌, arith, append_assoc, append-nil, length-append, length-take}
+use Rattle.std.proofs.Common.{◌≡◌, ◌↔◌, ◌⊎◌, inl, inr, ℕ, zero, suc, ◌+◌, ◌^◌, ◌<◌, ◌≤◌, Bool, true, false, true≢false, ◌&&◌, List, [], ◌∷◌, ◌++◌, map, length, take, get_or, refl, sym, ap, subst, ◌∙◌, arith, append_assoc, append-nil, length-append, length-take}
 use Rattle.std.specs.List.{AllByRecursion, Contains, list_all}
-use Rattle.std.specs.Prelude.{IsTrue, nat_lt}
+use Rattle.std.specs.Prelude.{All, IsTrue, nat_lt}
 use borrow.Author.Tests.{ltb-true}
 use Rattle.std.specs.Cmp.{ranks, first_so, second_so}
 use Rattle.std.specs.Cmp.Lexicographic.{slice_cmp}
@@ -10,14 +10,18 @@ use Rattle.std.specs.Ordering.{MatchOrdering, nat_cmp, ordering_then}
 use Rattle.std.specs.declared.cmp.Ordering.{Ordering}
 use Rattle.std.specs.declared.cmp.Ordering.TheVariants.{Less, Equal, Greater}
 use Rattle.std.proofs.lemmas.List.{length-map, take_more, take_all}
-use Rattle.std.proofs.lemmas.List.Elements.{Contains-append_left, Contains-append_right, Contains-append_cases}
+use Rattle.std.proofs.lemmas.Bool.{eqb-true}
+use Rattle.std.proofs.lemmas.Bool.Decides.{nat_tests}
+use Rattle.std.proofs.lemmas.List.Elements.{All-head, All-tail, Contains-append_left, Contains-append_right, Contains-append_cases}
 use Rattle.std.proofs.lemmas.List.Folds.{list_all-map}
-use Rattle.ranked_terms.specs.Terms.{node}
+use Rattle.ranked_terms.specs.Names.{Symbol}
+use Rattle.ranked_terms.specs.SignatureRules.{IsSignature, IsSymbol}
+use Rattle.ranked_terms.specs.Terms.{node, is_over, is_symbol}
 use Rattle.ranked_terms.specs.Positions.{Argument, SubtermAt, HasPosition, is_narrow, is_narrow_step, positions_below, positions_of, positions_step}
 use Rattle.ranked_terms.specs.declared.term.Term.{Term}
 use Rattle.ranked_terms.specs.declared.term.Term.TheFolds.{fold-roll-Term}
 use Rattle.ranked_terms.specs.declared.term.Term.TheViews.{out-Term}
-use Rattle.ranked_terms.proofs.TermLaws.{node_args, node_out, term_induction}
+use Rattle.ranked_terms.proofs.TermLaws.{is_over_node, node_args, node_out, term_induction}
 use Rattle.ranked_terms.proofs.PositionLaws.{args_of}
 
 pub positions_node : (f : ℕ) (ts : List Term) → positions_of (node f ts) ≡ [] ∷ positions_below 1 (map positions_of ts)
@@ -287,3 +291,25 @@ nothing_before (p ∷ ps) = ap (λ qs. p ∷ qs) (nothing_before ps)
 -- from the root on
 pub found_whole : (path : List ℕ) (old found : List (List ℕ)) (t : Term) → path ≡ [] → old ≡ [] → found ≡ old ++ map (λ p. path ++ p) (positions_of t) → found ≡ positions_of t
 found_whole path old found t e o h = h ∙ ((λ i. o i ++ map (λ p. e i ++ p) (positions_of t)) ∙ nothing_before (positions_of t))
+
+-- ---- terms over a signature are narrow
+
+few_by : (s : List Symbol) → All IsSymbol s → (f count : ℕ) → is_symbol s f count ≡ true → count ≤ 16
+few_by [] all f count e = absurd (true≢false (sym e))
+few_by (x ∷ s) all zero count e = let few = (All-head IsSymbol x s all).arity in let same : count ≡ x.1 = eqb-true count x.1 e in omega (arith, few, same)
+few_by (x ∷ s) all (suc f) count e = few_by s (All-tail IsSymbol x s all) f count e
+
+all_narrow : (s : List Symbol) (ts : List Term) → AllByRecursion (λ t. is_over s t ≡ true → is_narrow t ≡ true) ts → list_all (is_over s) ts ≡ true → list_all is_narrow ts ≡ true
+all_narrow s [] h e = refl
+all_narrow s (t ∷ ts) h e =
+    (λ i. h.0 (first_so (is_over s t) (list_all (is_over s) ts) e) i && all_narrow s ts h.1 (second_so (is_over s t) (list_all (is_over s) ts) e) i)
+
+pub over_is_narrow : (s : List Symbol) → IsSignature s → (t : Term) → is_over s t ≡ true → is_narrow t ≡ true
+over_is_narrow s valid = term_induction (λ t. is_over s t ≡ true → is_narrow t ≡ true) (λ f ts each over.
+    let h = sym (is_over_node s f ts) ∙ over in
+    let few = few_by s valid.symbols f (length ts) (first_so (is_symbol s f (length ts)) (list_all (is_over s) ts) h) in
+    let less : length ts < 2 ^ 32 = omega (arith, few) in
+    narrow_node f ts ∙ (λ i. ltb-complete (length ts) less i && all_narrow s ts each (second_so (is_symbol s f (length ts)) (list_all (is_over s) ts) h) i))
+  where
+    ltb-complete : (n : ℕ) → n < 2 ^ 32 → nat_lt n (2 ^ 32) ≡ true
+    ltb-complete n l = grind (arith, nat_tests)

@@ -5,6 +5,8 @@ pub mod Terms
 pub mod Laws
 pub mod Matching
 pub mod Positions
+pub mod Texts
+pub mod TextLaws
 pub mod Listings
 pub mod ListingLaws
 pub mod formers

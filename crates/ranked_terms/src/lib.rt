@@ -15,6 +15,8 @@ mod seq;
 mod signature;
 mod subterm;
 mod term;
+mod text;
+pub mod text_laws;
 #[cfg(test)]
 mod tests;
 
