@@ -46,9 +46,9 @@ pub record AreSameBut (k : ℕ) (s t : Term) : Type 0 where
 split_at : (k : ℕ) (t a : Term) → 1 ≤ k → k ≤ length (args_of t) → a ≡ get_or (args_of t) (k - 1) a → t ≡ node (out-Term t).sym (take (k - 1) (args_of t) ++ a ∷ drop k (args_of t))
 split_at k t a l m is =
     sym (node_out t) ∙ ap (node (out-Term t).sym) (
-      sym (take-append-drop (k - 1) (args_of t))
-      ∙ (ap (λ us. take (k - 1) (args_of t) ++ us) (drop_more (args_of t) (k - 1) a (omega (arith, l, m)))
-      ∙ ((λ i. take (k - 1) (args_of t) ++ sym is i ∷ drop (next i) (args_of t)))))
+    sym (take-append-drop (k - 1) (args_of t))
+    ∙ (ap (λ us. take (k - 1) (args_of t) ++ us) (drop_more (args_of t) (k - 1) a (omega (arith, l, m)))
+    ∙ ((λ i. take (k - 1) (args_of t) ++ sym is i ∷ drop (next i) (args_of t)))))
   where
     next : (k - 1) + 1 ≡ k
     next = omega (arith, l)

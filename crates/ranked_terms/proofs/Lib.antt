@@ -13,3 +13,5 @@ pub mod ChangeLaws
 pub mod PreorderLaws
 pub mod TextLaws
 pub mod ReadLaws
+pub mod ReadingLaws
+pub mod HeadLaws

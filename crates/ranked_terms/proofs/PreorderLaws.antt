@@ -81,13 +81,13 @@ from_below : (k : ℕ) (ts : List Term) (p : List ℕ) → Contains (positions_b
 from_below k [] p c = not_in_none p c
 from_below k (t ∷ ts) p c = elim (Contains-append_cases (map (λ p. k ∷ p) (positions_of t)) (positions_below (suc k) (map positions_of ts)) p c) [
   | inl a ↦
-    let r = from_map (λ (p : List ℕ). k ∷ p) (positions_of t) p a in
-    let e : k + 0 ≡ k = omega arith in
-    record { before = []; v = t; after = ts; q = r.0; splits = refl; is = sym r.2 ∙ ap (λ n. n ∷ r.0) (sym e); has = r.1 }
+      let r = from_map (λ (p : List ℕ). k ∷ p) (positions_of t) p a in
+      let e : k + 0 ≡ k = omega arith in
+      record { before = []; v = t; after = ts; q = r.0; splits = refl; is = sym r.2 ∙ ap (λ n. n ∷ r.0) (sym e); has = r.1 }
   | inr b ↦
-    let r = from_below (suc k) ts p b in
-    let e : k + suc (length r.before) ≡ suc k + length r.before = omega arith in
-    record { before = t ∷ r.before; v = r.v; after = r.after; q = r.q; splits = ap (λ xs. t ∷ xs) r.splits; is = r.is ∙ ap (λ n. n ∷ r.q) (sym e); has = r.has }
+      let r = from_below (suc k) ts p b in
+      let e : k + suc (length r.before) ≡ suc k + length r.before = omega arith in
+      record { before = t ∷ r.before; v = r.v; after = r.after; q = r.q; splits = ap (λ xs. t ∷ xs) r.splits; is = r.is ∙ ap (λ n. n ∷ r.q) (sym e); has = r.has }
 ]
 
 abbrev IsExact : Term → Type 0
@@ -103,10 +103,10 @@ from_node : (f : ℕ) (ts : List Term) → AllByRecursion IsExact ts → (p : Li
 from_node f ts each p c = elim (first_or_later [] p (positions_below 1 (map positions_of ts)) c) [
   | inl e ↦ subst (HasPosition (node f ts)) e (node f ts, refl)
   | inr b ↦
-    let r = from_below 1 ts p b in
-    let sub = (exact_at ts r.before r.v r.after each r.splits r.q).0 r.has in
-    let place : 1 + length r.before ≡ length r.before + 1 = omega arith in
-    subst (HasPosition (node f ts)) (sym r.is) (sub.0, (r.v, record { sym = f; before = r.before; after = r.after; place = place; is = ap (node f) r.splits }, sub.1))
+      let r = from_below 1 ts p b in
+      let sub = (exact_at ts r.before r.v r.after each r.splits r.q).0 r.has in
+      let place : 1 + length r.before ≡ length r.before + 1 = omega arith in
+      subst (HasPosition (node f ts)) (sym r.is) (sub.0, (r.v, record { sym = f; before = r.before; after = r.after; place = place; is = ap (node f) r.splits }, sub.1))
 ]
 
 to_node : (f : ℕ) (ts : List Term) → AllByRecursion IsExact ts → (p : List ℕ) → HasPosition (node f ts) p → Contains ([] ∷ positions_below 1 (map positions_of ts)) p
@@ -264,12 +264,12 @@ found_more path old before after ts i t l is h e =
     let last = map (λ p. (i + 1) ∷ p) (positions_of t) in
     let places : 1 + length (map positions_of (take i ts)) ≡ i + 1 = omega (arith, length-map (take i ts) positions_of, length-take i ts, l) in
     let whole : front ++ last ≡ [] ∷ positions_below 1 (map positions_of (take (i + 1) ts)) =
-        ap (λ ps. [] ∷ ps) (sym (
-          ap (λ us. positions_below 1 (map positions_of us)) (take_more ts i t l ∙ ap (λ u. take i ts ++ u ∷ []) (sym is))
-          ∙ (ap (positions_below 1) (map-append positions_of (take i ts) (t ∷ []))
-          ∙ (below-append 1 (map positions_of (take i ts)) (positions_of t ∷ [])
-          ∙ (ap (λ n. positions_below 1 (map positions_of (take i ts)) ++ positions_below n (positions_of t ∷ [])) places
-          ∙ ap (λ qs. positions_below 1 (map positions_of (take i ts)) ++ qs) (append-nil last)))))) in
+    ap (λ ps. [] ∷ ps) (sym (
+    ap (λ us. positions_below 1 (map positions_of us)) (take_more ts i t l ∙ ap (λ u. take i ts ++ u ∷ []) (sym is))
+    ∙ (ap (positions_below 1) (map-append positions_of (take i ts) (t ∷ []))
+    ∙ (below-append 1 (map positions_of (take i ts)) (positions_of t ∷ [])
+    ∙ (ap (λ n. positions_below 1 (map positions_of (take i ts)) ++ positions_below n (positions_of t ∷ [])) places
+    ∙ ap (λ qs. positions_below 1 (map positions_of (take i ts)) ++ qs) (append-nil last)))))) in
     e ∙ ((λ j. h j ++ paths-down path (i + 1) (positions_of t) j)
     ∙ (append_assoc old (map (λ p. path ++ p) front) (map (λ p. path ++ p) last)
     ∙ ap (λ ps. old ++ ps) (sym (map-append (λ p. path ++ p) front last) ∙ ap (map (λ p. path ++ p)) whole)))
@@ -278,8 +278,8 @@ pub found_all : (path : List ℕ) (old found : List (List ℕ)) (t : Term) (ts :
     → found ≡ old ++ map (λ p. path ++ p) ([] ∷ positions_below 1 (map positions_of (take i ts))) → found ≡ old ++ map (λ p. path ++ p) (positions_of t)
 found_all path old found t ts i e l h =
     h ∙ ap (λ ps. old ++ map (λ p. path ++ p) ps) (
-      ap (λ us. [] ∷ positions_below 1 (map positions_of us)) (take_all i ts l ∙ e)
-      ∙ (sym (positions_node (out-Term t).sym (args_of t)) ∙ ap positions_of (node_out t)))
+    ap (λ us. [] ∷ positions_below 1 (map positions_of us)) (take_all i ts l ∙ e)
+    ∙ (sym (positions_node (out-Term t).sym (args_of t)) ∙ ap positions_of (node_out t)))
 
 pub found_first : (path : List ℕ) (old found : List (List ℕ)) → found ≡ old ++ path ∷ [] → found ≡ old ++ map (λ p. path ++ p) ([] ∷ positions_below 1 (map positions_of []))
 found_first path old found e = e ∙ ap (λ p. old ++ p ∷ []) (sym (append-nil path))

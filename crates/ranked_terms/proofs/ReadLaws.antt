@@ -8,7 +8,7 @@ use Rattle.std.proofs.lemmas.List.Elements.{All-head, All-tail}
 use Rattle.ranked_terms.specs.Words.{IsWord, is_word_byte}
 use Rattle.ranked_terms.specs.Names.{Symbol, name_of, number_of}
 use Rattle.ranked_terms.specs.Terms.{is_over, is_symbol, node}
-use Rattle.ranked_terms.specs.Texts.{Text, Stops, symbol_text, term_text, to_come}
+use Rattle.ranked_terms.specs.Texts.{Text, NoWord, Stops, symbol_text, term_text, to_come}
 use Rattle.ranked_terms.specs.SignatureRules.{IsSymbol, IsSignature}
 use Rattle.ranked_terms.specs.declared.term.Term.{Term}
 use Rattle.ranked_terms.specs.declared.term.Term.TheViews.{out-Term}
@@ -18,11 +18,6 @@ use Rattle.ranked_terms.proofs.SignatureLaws.{number_of-only}
 use Rattle.ranked_terms.proofs.TextLaws.{texts, text_node}
 
 -- ---- names
-
--- no word byte stands in front
-abbrev pub NoWord : Text → Type 0
-NoWord [] = Unit {0}
-NoWord (b ∷ bs) = is_word_byte b ≡ false
 
 no_word : (c : ℕ) (rest x : Text) → NoWord x → x ≡ c ∷ rest → is_word_byte c ≡ true → ⊥
 no_word c rest [] h e w = cc
@@ -95,8 +90,8 @@ module _ (s : List Symbol) where
     rest_once (t ∷ ts) (u ∷ us) x y h a b e =
         let inner : (term_text s t ++ to_come 44 (texts s ts)) ++ x ≡ (term_text s u ++ to_come 44 (texts s us)) ++ y = cc in
         let both = h.0 u (to_come 44 (texts s ts) ++ x) (to_come 44 (texts s us) ++ y)
-            (first_so (is_over s t) (list_all (is_over s) ts) a) (first_so (is_over s u) (list_all (is_over s) us) b) (argument_stops ts x) (argument_stops us y)
-            (sym (append_assoc (term_text s t) (to_come 44 (texts s ts)) x) ∙ inner ∙ append_assoc (term_text s u) (to_come 44 (texts s us)) y) in
+        (first_so (is_over s t) (list_all (is_over s) ts) a) (first_so (is_over s u) (list_all (is_over s) us) b) (argument_stops ts x) (argument_stops us y)
+        (sym (append_assoc (term_text s t) (to_come 44 (texts s ts)) x) ∙ inner ∙ append_assoc (term_text s u) (to_come 44 (texts s us)) y) in
         let others = rest_once ts us x y h.1 (second_so (is_over s t) (list_all (is_over s) ts) a) (second_so (is_over s u) (list_all (is_over s) us) b) both.1 in
         ((λ i. both.0 i ∷ others.0 i), others.1)
 
@@ -113,7 +108,7 @@ module _ (s : List Symbol) where
         → (symbol_text s f ++ to_come 40 (texts s ts)) ++ x ≡ (symbol_text s g ++ to_come 40 (texts s us)) ++ y → (f ≡ g) × (ts ≡ us) × (x ≡ y)
     node_once f g ts us x y m n h a b k l e =
         let names = words_once (symbol_text s f) (symbol_text s g) (to_come 40 (texts s ts) ++ x) (to_come 40 (texts s us) ++ y) (name_word f m) (name_word g n) (name_stops ts x k) (name_stops us y l)
-            (sym (append_assoc (symbol_text s f) (to_come 40 (texts s ts)) x) ∙ e ∙ append_assoc (symbol_text s g) (to_come 40 (texts s us)) y) in
+        (sym (append_assoc (symbol_text s f) (to_come 40 (texts s ts)) x) ∙ e ∙ append_assoc (symbol_text s g) (to_come 40 (texts s us)) y) in
         let args = args_once ts us x y h a b k l names.1 in
         (symbol_once f g m n names.0, args.0, args.1)
 
@@ -126,8 +121,8 @@ module _ (s : List Symbol) where
         let in_t = first_so (is_symbol s f (length ts)) (list_all (is_over s) ts) over_t in
         let in_u = first_so (is_symbol s g (length us)) (list_all (is_over s) us) over_u in
         let same = node_once f g ts us x y (named_by s valid.symbols f (length ts) in_t) (named_by s valid.symbols g (length us) in_u) each
-            (second_so (is_symbol s f (length ts)) (list_all (is_over s) ts) over_t) (second_so (is_symbol s g (length us)) (list_all (is_over s) us) over_u) k l
-            (ap (λ r. r ++ x) (sym (text_node s f ts)) ∙ e ∙ ap (λ r. r ++ y) (ap (term_text s) (sym (node_out u)) ∙ text_node s g us)) in
+        (second_so (is_symbol s f (length ts)) (list_all (is_over s) ts) over_t) (second_so (is_symbol s g (length us)) (list_all (is_over s) us) over_u) k l
+        (ap (λ r. r ++ x) (sym (text_node s f ts)) ∙ e ∙ ap (λ r. r ++ y) (ap (term_text s) (sym (node_out u)) ∙ text_node s g us)) in
         ((λ i. node (same.0 i) (same.1 i)) ∙ node_out u, same.2))
 
     -- no two terms have one text

@@ -1,9 +1,9 @@
 -- Printed texts of numbers and ground terms. This project's own.
-use Rattle.std.specs.Prelude.{◌≡◌, ℕ, ◌+◌, ◌≤◌, ◌==◌, Bool, false, if◌then◌else◌, List, [], ◌∷◌, ◌++◌, map, unwrap_or, IsTrue}
+use Rattle.std.specs.Prelude.{◌≡◌, ℕ, ◌+◌, ◌≤◌, ◌==◌, Bool, true, false, if◌then◌else◌, List, [], ◌∷◌, ◌++◌, map, Some, unwrap_or, IsTrue}
 use Rattle.std.specs.List.{join_with_byte}
 use Rattle.std.specs.Int.Digits.{digits_of}
 use Rattle.ranked_terms.specs.Words.{is_word_byte}
-use Rattle.ranked_terms.specs.Names.{Symbol, name_of}
+use Rattle.ranked_terms.specs.Names.{Symbol, name_of, arity_of}
 use Rattle.ranked_terms.specs.Terms.{is_over, size_of}
 use Rattle.ranked_terms.specs.declared.term.Term.{Term}
 use Rattle.ranked_terms.specs.declared.term.Term.TheOpen.{Term-F}
@@ -63,3 +63,27 @@ to_come mark (text ∷ texts) = mark ∷ (text ++ to_come 44 texts)
 abbrev pub Stops : Text → Type 0
 Stops [] = Unit {0}
 Stops (b ∷ bs) = (is_word_byte b ≡ false) × ((b == 40) ≡ false)
+
+-- the text begins with the term, behind which it stops; so many symbols more might have stood there
+pub record BeginsWith (signature : List Symbol) (text : Text) (room : ℕ) (t : Term) (rest : Text) (left : ℕ) : Type 0 where
+  pub over : is_over signature t ≡ true
+  pub text_is : text ≡ term_text signature t ++ rest
+  pub stops : Stops rest
+  pub size : size_of t + left ≡ room
+
+abbrev pub BeginsNoTerm : List Symbol → Text → ℕ → Type 0
+BeginsNoTerm signature text room = (t : Term) (rest : Text) (left : ℕ) → BeginsWith signature text room t rest left → ⊥
+
+-- no word byte stands in front
+abbrev pub NoWord : Text → Type 0
+NoWord [] = Unit {0}
+NoWord (b ∷ bs) = is_word_byte b ≡ false
+
+-- the text begins with the name of a symbol of this arity
+pub record IsHead (signature : List Symbol) (text : Text) (sym arity : ℕ) (rest : Text) : Type 0 where
+  pub arity_is : arity_of signature sym ≡ Some arity
+  pub text_is : text ≡ symbol_text signature sym ++ rest
+  pub ends : NoWord rest
+
+abbrev pub BeginsNoSymbol : List Symbol → Text → Type 0
+BeginsNoSymbol signature text = (sym arity : ℕ) (rest : Text) → IsHead signature text sym arity rest → ⊥

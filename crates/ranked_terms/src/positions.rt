@@ -26,7 +26,12 @@ impl Term {
 }
 
 // Adds the positions of the term's subterms. The path is the position of the term itself.
-fn add_positions(alloc: Global, t: &Term, path: &mut Vec<u32>, found: &mut Seq<Position>) -> Result<(), AllocError>
+fn add_positions(
+    alloc: Global,
+    t: &Term,
+    path: &mut Vec<u32>,
+    found: &mut Seq<Position>,
+) -> Result<(), AllocError>
     requires { IsTrue (is_narrow t.now) }
     ensures path { OnOk result (path.new.items ≡ path.old.items) }
     ensures found { OnOk result (found.new ≡ found.old ++ map (λ p. path.old.items ++ p) (positions_of t.now)) }

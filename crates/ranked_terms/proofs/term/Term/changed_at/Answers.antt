@@ -9,8 +9,7 @@ pub returns-then-not-is_same_but : goal.returns-then-not-is_same_but
 returns-then-not-is_same_but c u v =
     let ks = c.as_slice-numbers.result.now in let i = c.loop-i.i in let k = get_or ks i 0 in
     let s = c.loop-i.here.now in let t = c.loop-i.there.now in
-    let other : IsSameBut k s t → ⊥ = λ h. let x : IsTrue false = c.if-not-is_same_but.ensures.1 h in cc in
-    (
+    let other : IsSameBut k s t → ⊥ = λ h. let x : IsTrue false = c.if-not-is_same_but.ensures.1 h in cc in (
       λ e. no_pair (u, v) e,
       λ p. absurd (not_replaced_by k (drop (i + 1) ks) s t v other ((next_change ks i 0 s t u v c.loop-i-test.true).0 ((c.loop-i.invariant u v).0 p)).1),
     )
