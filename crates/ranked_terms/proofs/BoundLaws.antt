@@ -1,6 +1,6 @@
 -- The instance that a binding makes, and the greatest height of terms.
-use Rattle.std.proofs.Common.{◌≡◌, ◌↔◌, ℕ, zero, suc, ◌+◌, ◌-◌, ◌<◌, ◌≤◌, max, min, Bool, true, false, true≢false, ◌==◌, ◌||◌, List, [], ◌∷◌, ◌++◌, map, length, take, get_or, Option, Some, None, refl, sym, ap, subst, ◌∙◌, arith}
-use Rattle.std.specs.List.{Contains, list_any}
+use Rattle.std.proofs.Common.{◌≡◌, ℕ, zero, suc, ◌+◌, ◌-◌, ◌<◌, ◌≤◌, max, min, Bool, true, false, true≢false, ◌==◌, ◌||◌, List, [], ◌∷◌, ◌++◌, map, length, take, get_or, Option, Some, None, refl, sym, ap, subst, ◌∙◌, arith}
+use Rattle.std.specs.List.{Contains}
 use Rattle.std.specs.Prelude.{All, cond}
 use Rattle.std.specs.Cmp.{ranks}
 use Rattle.std.specs.Ordering.{MatchOrdering, is_lt, nat_cmp, ord_max}
@@ -15,8 +15,8 @@ use Rattle.ranked_terms.specs.declared.term.Term.{Term}
 use Rattle.ranked_terms.specs.declared.term.Term.TheViews.{out-Term}
 use Rattle.ranked_terms.specs.declared.term.Pattern.{Pattern}
 use Rattle.ranked_terms.specs.declared.term.Pattern.TheVariants.{Var, App}
-use Rattle.ranked_terms.proofs.TermLaws.{instance_var, instance_app, height_node, node_out, occurrences_var, occurrences_app}
-use Rattle.ranked_terms.proofs.InstanceLaws.{instance_of-agree}
+use Rattle.ranked_terms.specs.lemmas.TermLaws.{instance_var, instance_app, height_node, node_out, occurrences_var, occurrences_app}
+use Rattle.ranked_terms.specs.lemmas.InstanceLaws.{instance_of-agree}
 use Rattle.ranked_terms.proofs.MatchingLaws.{agrees_at, is_in-absent}
 use Rattle.ranked_terms.proofs.BindingLaws.{own_agrees}
 

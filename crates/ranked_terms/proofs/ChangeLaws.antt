@@ -1,14 +1,14 @@
 -- Two terms that are the same but for one argument of each.
-use Rattle.std.proofs.Common.{◌≡◌, ◌≢◌, ◌↔◌, ◌⊎◌, inl, inr, ℕ, zero, suc, ◌+◌, ◌-◌, ◌<◌, ◌≤◌, Bool, true, false, ◌&&◌, List, [], ◌∷◌, ◌++◌, length, take, drop, get_or, refl, sym, ap, subst, ◌∙◌, arith, length-append, length-take, length-drop, Option, Some, None}
+use Rattle.std.proofs.Common.{◌≡◌, ◌≢◌, ◌↔◌, ◌⊎◌, inl, inr, ℕ, suc, ◌+◌, ◌-◌, ◌<◌, ◌≤◌, Bool, true, false, ◌&&◌, List, [], ◌∷◌, ◌++◌, length, take, drop, get_or, refl, sym, ap, subst, ◌∙◌, arith, length-append, length-take, length-drop, Option, Some, None}
 use Rattle.std.specs.Cmp.Lexicographic.{pointwise}
 use Rattle.std.proofs.lemmas.List.{get_or_default, drop_more, take-append-drop, take_all, drop_all}
 use Rattle.std.proofs.Math.Seq.{take-append_seam}
 use Rattle.ranked_terms.specs.Terms.{node}
-use Rattle.ranked_terms.specs.Positions.{Argument, InArgument, IsSameBut, SubtermAt, ReplacedAt}
+use Rattle.ranked_terms.specs.Positions.{InArgument, IsSameBut, SubtermAt, ReplacedAt}
 use Rattle.ranked_terms.specs.declared.term.Term.{Term}
 use Rattle.ranked_terms.specs.declared.term.Term.TheViews.{out-Term}
-use Rattle.ranked_terms.proofs.TermLaws.{node_out, node_sym, out_node}
-use Rattle.ranked_terms.proofs.EqLaws.{eq, eq-same, same-eq}
+use Rattle.ranked_terms.specs.lemmas.TermLaws.{node_out, out_node}
+use Rattle.ranked_terms.specs.lemmas.EqLaws.{eq, eq-same, same-eq}
 use Rattle.ranked_terms.proofs.PositionLaws.{args_of, argument_is, args_are, drop-seam, one_down}
 
 -- ---- equal lists of terms

@@ -6,10 +6,9 @@ use Rattle.std.specs.Str.{IsAscii, IsUtf8}
 use Rattle.std.specs.Cmp.{first_so, second_so}
 use Rattle.std.proofs.lemmas.Bool.{eqb-true}
 use Rattle.std.proofs.lemmas.Bool.Decides.{nat_tests}
-use Rattle.std.proofs.lemmas.List.{take-append-drop}
 use Rattle.std.proofs.lemmas.Str.{IsUtf8-from_ascii}
 use Rattle.ranked_terms.specs.Words.{is_word_byte}
-use Rattle.ranked_terms.specs.Names.{Symbol, arity_of, name_of, number_of}
+use Rattle.ranked_terms.specs.Names.{Symbol, arity_of, number_of}
 use Rattle.ranked_terms.specs.Texts.{Text, BeginsNoSymbol, IsHead, NoWord, Stops, symbol_text}
 use Rattle.ranked_terms.specs.SignatureRules.{IsSignature}
 use Rattle.ranked_terms.proofs.SignatureLaws.{name_of-number_of, number_of-only}

@@ -1,10 +1,6 @@
 pub mod SignatureLaws
 mod SignatureLemmas
-pub mod TermLaws
-pub mod InstanceLaws
-pub mod VariableLaws
-pub mod Listings
-pub mod EqLaws
+pub mod SizeLaws
 pub mod MatchingLaws
 pub mod BindingLaws
 pub mod PositionLaws

@@ -13,7 +13,7 @@ use Rattle.ranked_terms.specs.Matching.{filled, is_in, with_variables, bound_in,
 use Rattle.ranked_terms.specs.declared.term.Term.{Term}
 use Rattle.ranked_terms.specs.declared.term.Pattern.{Pattern}
 use Rattle.ranked_terms.specs.declared.term.Pattern.TheVariants.{Var, App}
-use Rattle.ranked_terms.proofs.TermLaws.{instance_var, instance_app, occurrences_var, occurrences_app, node_args, node_sym, node_out}
+use Rattle.ranked_terms.specs.lemmas.TermLaws.{instance_var, instance_app, occurrences_var, occurrences_app, node_args, node_sym, node_out}
 
 -- ---- slots
 

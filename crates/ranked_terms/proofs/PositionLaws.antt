@@ -1,11 +1,11 @@
 -- One step down a position.
-use Rattle.std.proofs.Common.{◌≡◌, ◌↔◌, ◌⊎◌, ℕ, zero, suc, ◌+◌, ◌-◌, ◌<◌, ◌≤◌, List, [], ◌∷◌, ◌++◌, length, take, drop, get_or, refl, sym, ap, subst, ◌∙◌, arith, length-append, length-take, inl, inr}
+use Rattle.std.proofs.Common.{◌≡◌, ◌↔◌, ◌⊎◌, ℕ, suc, ◌+◌, ◌-◌, ◌<◌, ◌≤◌, List, [], ◌∷◌, ◌++◌, length, take, drop, get_or, refl, sym, ap, subst, ◌∙◌, arith, length-append, length-take, inl, inr}
 use Rattle.std.proofs.lemmas.List.{drop_more, take-append-drop}
 use Rattle.ranked_terms.specs.Terms.{node}
 use Rattle.ranked_terms.specs.declared.term.Term.{Term}
 use Rattle.ranked_terms.specs.declared.term.Term.TheViews.{out-Term}
-use Rattle.ranked_terms.proofs.TermLaws.{node_out, out_node, node_sym, node_args}
-use Rattle.std.proofs.Common.{Option, Some, None}
+use Rattle.ranked_terms.specs.lemmas.TermLaws.{node_out, out_node, node_sym}
+use Rattle.std.proofs.Common.{Some, None}
 use Rattle.std.proofs.Math.Seq.{take-append_seam}
 use Rattle.ranked_terms.specs.Positions.{InArgument}
 use Rattle.ranked_terms.specs.Positions.{Argument, SubtermAt, ReplacedAt}

@@ -1,5 +1,5 @@
 -- The positions of a term in preorder.
-use Rattle.std.proofs.Common.{◌≡◌, ◌↔◌, ◌⊎◌, inl, inr, ℕ, zero, suc, ◌+◌, ◌^◌, ◌<◌, ◌≤◌, Bool, true, false, true≢false, ◌&&◌, List, [], ◌∷◌, ◌++◌, map, length, take, get_or, refl, sym, ap, subst, ◌∙◌, arith, append_assoc, append-nil, length-append, length-take}
+use Rattle.std.proofs.Common.{◌≡◌, ◌↔◌, ◌⊎◌, inl, inr, ℕ, zero, suc, ◌+◌, ◌^◌, ◌<◌, ◌≤◌, Bool, true, true≢false, ◌&&◌, List, [], ◌∷◌, ◌++◌, map, length, take, get_or, refl, sym, ap, subst, ◌∙◌, arith, append_assoc, append-nil, length-take}
 use Rattle.std.specs.List.{AllByRecursion, Contains, list_all}
 use Rattle.std.specs.Prelude.{All, IsTrue, nat_lt}
 use borrow.Author.Tests.{ltb-true}
@@ -17,11 +17,11 @@ use Rattle.std.proofs.lemmas.List.Folds.{list_all-map}
 use Rattle.ranked_terms.specs.Names.{Symbol}
 use Rattle.ranked_terms.specs.SignatureRules.{IsSignature, IsSymbol}
 use Rattle.ranked_terms.specs.Terms.{node, is_over, is_symbol}
-use Rattle.ranked_terms.specs.Positions.{Argument, SubtermAt, HasPosition, is_narrow, is_narrow_step, positions_below, positions_of, positions_step}
+use Rattle.ranked_terms.specs.Positions.{HasPosition, is_narrow, is_narrow_step, positions_below, positions_of, positions_step}
 use Rattle.ranked_terms.specs.declared.term.Term.{Term}
 use Rattle.ranked_terms.specs.declared.term.Term.TheFolds.{fold-roll-Term}
 use Rattle.ranked_terms.specs.declared.term.Term.TheViews.{out-Term}
-use Rattle.ranked_terms.proofs.TermLaws.{is_over_node, node_args, node_out, term_induction}
+use Rattle.ranked_terms.specs.lemmas.TermLaws.{is_over_node, node_args, node_out, term_induction}
 use Rattle.ranked_terms.proofs.PositionLaws.{args_of}
 
 pub positions_node : (f : ℕ) (ts : List Term) → positions_of (node f ts) ≡ [] ∷ positions_below 1 (map positions_of ts)

@@ -1,6 +1,6 @@
 -- A term over a signature is told by its text, and by a text that begins with it.
-use Rattle.std.proofs.Common.{◌≡◌, ℕ, zero, suc, ◌==◌, Bool, true, false, true≢false, ◌&&◌, List, [], ◌∷◌, ◌++◌, map, length, Some, refl, sym, ap, ◌∙◌, append_assoc, append-nil}
-use Rattle.std.specs.Prelude.{All, IsTrue, unwrap_or}
+use Rattle.std.proofs.Common.{◌≡◌, ℕ, zero, suc, true, true≢false, List, [], ◌∷◌, ◌++◌, length, Some, refl, sym, ap, ◌∙◌, append_assoc, append-nil}
+use Rattle.std.specs.Prelude.{All, unwrap_or}
 use Rattle.std.specs.List.{AllByRecursion, list_all}
 use Rattle.std.specs.Cmp.{first_so, second_so}
 use Rattle.std.proofs.lemmas.Bool.{eqb-false}
@@ -12,7 +12,7 @@ use Rattle.ranked_terms.specs.Texts.{Text, NoWord, Stops, symbol_text, term_text
 use Rattle.ranked_terms.specs.SignatureRules.{IsSymbol, IsSignature}
 use Rattle.ranked_terms.specs.declared.term.Term.{Term}
 use Rattle.ranked_terms.specs.declared.term.Term.TheViews.{out-Term}
-use Rattle.ranked_terms.proofs.TermLaws.{term_induction, is_over_node, node_out}
+use Rattle.ranked_terms.specs.lemmas.TermLaws.{term_induction, is_over_node, node_out}
 use Rattle.ranked_terms.proofs.PositionLaws.{args_of}
 use Rattle.ranked_terms.proofs.SignatureLaws.{number_of-only}
 use Rattle.ranked_terms.proofs.TextLaws.{texts, text_node}

@@ -1,21 +1,19 @@
 -- How a term is read from a text: its symbol, its arguments one by one, and what stands behind them.
-use Rattle.std.proofs.Common.{◌≡◌, ◌≢◌, ◌↔◌, ℕ, zero, suc, ◌+◌, ◌-◌, ◌<◌, ◌≤◌, ◌==◌, Bool, true, false, true≢false, ◌&&◌, if◌then◌else◌, List, [], ◌∷◌, ◌++◌, map, length, sum, Option, Some, None, refl, sym, ap, subst, ◌∙◌, arith, append_assoc, append-nil, length-append}
+use Rattle.std.proofs.Common.{◌≡◌, ◌≢◌, ◌↔◌, ℕ, ◌+◌, ◌-◌, ◌<◌, ◌≤◌, true, true≢false, ◌&&◌, List, [], ◌∷◌, ◌++◌, map, length, sum, Option, Some, None, refl, sym, ap, subst, ◌∙◌, arith, append_assoc, append-nil, length-append}
 use Rattle.std.specs.List.{list_all}
-use Rattle.std.specs.Prelude.{IsTrue}
 use Rattle.std.specs.Cmp.{first_so, second_so}
 use Rattle.std.proofs.lemmas.Bool.{eqb-true, eq-eqb}
 use Rattle.std.proofs.lemmas.List.Sums.{sum_by-cons}
-use Rattle.ranked_terms.specs.Words.{is_word_byte}
 use Rattle.ranked_terms.specs.Names.{Symbol, arity_of}
 use Rattle.ranked_terms.specs.Terms.{is_arity, is_over, is_symbol, node, size_of}
-use Rattle.ranked_terms.specs.Texts.{Text, BeginsNoSymbol, BeginsNoTerm, BeginsWith, IsHead, IsTextOf, NoWord, Stops, symbol_text, term_text, to_come}
+use Rattle.ranked_terms.specs.Texts.{Text, BeginsNoSymbol, BeginsNoTerm, BeginsWith, IsHead, IsTextOf, Stops, symbol_text, term_text, to_come}
 use Rattle.ranked_terms.specs.SignatureRules.{IsSignature}
 use Rattle.ranked_terms.specs.declared.term.Term.{Term}
 use Rattle.ranked_terms.specs.declared.term.Term.TheViews.{out-Term}
-use Rattle.ranked_terms.proofs.TermLaws.{is_over_node, node_out, size_node}
+use Rattle.ranked_terms.specs.lemmas.TermLaws.{is_over_node, node_out, size_node}
 use Rattle.ranked_terms.proofs.PositionLaws.{args_of}
 use Rattle.ranked_terms.proofs.TextLaws.{texts, text_node, text_of_term}
-use Rattle.ranked_terms.proofs.ReadLaws.{Named, named_by, words_once, name_stops, name_word, argument_stops, symbol_once, term_once}
+use Rattle.ranked_terms.proofs.ReadLaws.{named_by, words_once, name_stops, name_word, argument_stops, symbol_once, term_once}
 
 abbrev pub sizes : List Term → ℕ
 sizes ts = sum (map size_of ts)

@@ -1,5 +1,5 @@
 -- The text of a term as it is printed, piece by piece.
-use Rattle.std.proofs.Common.{◌≡◌, ◌≢◌, ℕ, zero, suc, ◌+◌, ◌<◌, ◌≤◌, ◌==◌, Bool, true, false, ◌&&◌, if◌then◌else◌, List, [], ◌∷◌, ◌++◌, map, length, take, drop, get_or, refl, sym, ap, subst, ◌∙◌, arith, append_assoc, append-nil}
+use Rattle.std.proofs.Common.{◌≡◌, ◌≢◌, ℕ, zero, suc, ◌+◌, ◌<◌, ◌≤◌, ◌==◌, Bool, true, false, if◌then◌else◌, List, [], ◌∷◌, ◌++◌, map, length, drop, get_or, refl, sym, ap, subst, ◌∙◌, arith, append_assoc, append-nil}
 use Rattle.std.specs.List.{join_with_byte, list_all}
 use Rattle.std.specs.Prelude.{IsTrue, Result, Ok, Err, OnErr}
 use Rattle.std.specs.Cmp.{first_so, second_so}
@@ -11,7 +11,7 @@ use Rattle.ranked_terms.specs.Texts.{Text, IsCutAt, IsCutShort, symbol_text, ter
 use Rattle.ranked_terms.specs.declared.term.Term.{Term}
 use Rattle.ranked_terms.specs.declared.term.Term.TheFolds.{fold-roll-Term}
 use Rattle.ranked_terms.specs.declared.term.Term.TheViews.{out-Term}
-use Rattle.ranked_terms.proofs.TermLaws.{is_over_node, node_out}
+use Rattle.ranked_terms.specs.lemmas.TermLaws.{is_over_node, node_out}
 use Rattle.ranked_terms.proofs.PositionLaws.{args_of}
 
 -- ---- the text of a node

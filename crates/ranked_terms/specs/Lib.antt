@@ -7,6 +7,5 @@ pub mod Matching
 pub mod Positions
 pub mod Texts
 pub mod TextLaws
-pub mod Listings
-pub mod ListingLaws
 pub mod formers
+pub mod lemmas

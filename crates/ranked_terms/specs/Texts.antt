@@ -1,5 +1,5 @@
 -- Printed texts of numbers and ground terms. This project's own.
-use Rattle.std.specs.Prelude.{◌≡◌, ℕ, ◌+◌, ◌≤◌, ◌==◌, Bool, true, false, if◌then◌else◌, List, [], ◌∷◌, ◌++◌, map, Some, unwrap_or, IsTrue}
+use Rattle.std.specs.Prelude.{◌≡◌, ℕ, ◌+◌, ◌≤◌, ◌==◌, true, false, if◌then◌else◌, List, [], ◌∷◌, ◌++◌, map, Some, unwrap_or, IsTrue}
 use Rattle.std.specs.List.{join_with_byte}
 use Rattle.std.specs.Int.Digits.{digits_of}
 use Rattle.ranked_terms.specs.Words.{is_word_byte}

@@ -28,7 +28,8 @@ impl<'a> Model for Binding<'a> {
 
     ghost view = { λ b. filled (take b.len b.slots) };
 
-    ghost invariant = { λ b. (b.len ≤ 16) × (length (filled (take b.len b.slots)) ≡ b.len) × Once (bound_in (filled (take b.len b.slots))) };
+    ghost invariant = { λ b. (b.len ≤ 16) × (length (filled (take b.len b.slots)) ≡ b.len)
+        × Once (bound_in (filled (take b.len b.slots))) };
 }
 
 impl<'a> Binding<'a> {
@@ -67,7 +68,8 @@ impl<'a> Binding<'a> {
     /// Binds a variable to a term, unless it is bound to another one.
     pub(crate) fn bind(&mut self, variable: u32, t: &'a Term) -> bool
         requires { length (with_variable (bound_in self.old) variable) ≤ 16 }
-        ensures { MatchBool result (IsBoundBy (Pattern.Var variable) t.now self.old self.new) (IsRefused (Pattern.Var variable) t.now self.old self.new) }
+        ensures { MatchBool result (IsBoundBy (Pattern.Var variable) t.now self.old self.new)
+            (IsRefused (Pattern.Var variable) t.now self.old self.new) }
     {
         match self.get(variable) {
             Some(bound) => equal(bound, t),

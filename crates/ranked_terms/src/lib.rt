@@ -16,10 +16,7 @@ mod seq;
 mod signature;
 mod subterm;
 mod term;
-#[cfg(test)]
-mod tests;
 mod text;
-pub mod text_laws;
 
 pub use binding::Binding;
 pub use matching::{instance, match_term};

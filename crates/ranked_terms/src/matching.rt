@@ -1,7 +1,8 @@
 //! Matching and instances.
 ghost use Rattle.std.specs.Prelude.{◌≡◌, ◌≤◌, ◌↔◌, ℕ, length, IsTrue, IfOk, Contains, MatchBool};
 ghost use Rattle.ranked_terms.specs.Terms.{instance_of, occurrences};
-ghost use Rattle.ranked_terms.specs.Matching.{bound_in, bound_with, binding_of, with_variables, IsInstance, IsBoundBy, IsRefused, IsInstanceBy};
+ghost use Rattle.ranked_terms.specs.Matching.{IsInstance, IsBoundBy, IsInstanceBy, IsRefused};
+ghost use Rattle.ranked_terms.specs.Matching.{bound_in, bound_with, binding_of, with_variables};
 
 use crate::binding::Binding;
 use crate::seq::Seq;

@@ -12,6 +12,7 @@ impl Term {
         requires { IsTrue (is_symbol sig.now sym (length args)) }
         ensures { result ≡ node sym args }
     {
+        // For the proof: the signature is named by the condition alone.
         let _ = sig;
         Term { sym, args }
     }

@@ -46,7 +46,8 @@ fn read_term<'a>(
     room: u32,
 ) -> Result<Option<Read<'a>>, AllocError>
     requires { IsSignature sig.now }
-    ensures { IfOk result (λ o. MatchOption o (BeginsNoTerm sig.now text.now room) (λ read. BeginsWith sig.now text.now room read.term read.rest.now read.left)) }
+    ensures { IfOk result (λ o. MatchOption o (BeginsNoTerm sig.now text.now room)
+        (λ read. BeginsWith sig.now text.now room read.term read.rest.now read.left)) }
 {
     if room == 0 {
         return Ok(None);
@@ -94,7 +95,8 @@ struct Head<'a> {
 // The symbol whose name is the longest word at the front of a text.
 fn read_head<'a>(sig: &Signature, text: &'a [u8]) -> Option<Head<'a>>
     requires { IsSignature sig.now }
-    ensures { MatchOption result (BeginsNoSymbol sig.now text.now) (λ head. IsHead sig.now text.now head.sym head.arity head.rest.now) }
+    ensures { MatchOption result (BeginsNoSymbol sig.now text.now)
+        (λ head. IsHead sig.now text.now head.sym head.arity head.rest.now) }
 {
     let (word, rest) = text.split_at(word_len(text));
     let Ok(name) = str::from_utf8(word) else {
@@ -130,7 +132,8 @@ fn is_word_byte(b: u8) -> bool
 // What stands behind the arguments, where the next one would have this mark in front: a closing parenthesis is to come if
 // there was any. Neither a word byte nor an opening parenthesis follows.
 fn after_args(text: &[u8], mark: u8) -> Option<&[u8]>
-    ensures { MatchOption result ((rest : List ℕ) → Stops rest → text.now ≢ to_come mark [] ++ rest) (λ rest. (text.now ≡ to_come mark [] ++ rest.now) × Stops rest.now) }
+    ensures { MatchOption result ((rest : List ℕ) → Stops rest → text.now ≢ to_come mark [] ++ rest)
+        (λ rest. (text.now ≡ to_come mark [] ++ rest.now) × Stops rest.now) }
 {
     let rest = if mark == b',' {
         after_byte(text, b')')?

@@ -32,7 +32,8 @@ impl Term {
     /// exactly where one of them has no such position, or they differ elsewhere. It takes no memory, and no stack that grows
     /// with the position.
     pub fn changed_at<'a>(&'a self, at: &Position, other: &'a Term) -> Option<(&'a Term, &'a Term)>
-        ensures { (u v : Ground) → (both_now result ≡ Some (u, v)) ↔ (SubtermAt at.now self.now u × ReplacedAt v at.now self.now other.now) }
+        ensures { (u v : Ground) → (both_now result ≡ Some (u, v))
+            ↔ (SubtermAt at.now self.now u × ReplacedAt v at.now self.now other.now) }
     {
         let mut here = self;
         let mut there = other;

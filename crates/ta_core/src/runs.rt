@@ -5,7 +5,7 @@ ghost use Rattle.ranked_terms.specs.Terms.{config_of};
 ghost use Rattle.ranked_terms.specs.declared.term.Config.{State};
 ghost use Rattle.ta_core.specs.Runs.{Runs};
 ghost use Rattle.ta_core.specs.Languages.{Accepts};
-ghost use Rattle.ta_core.specs.Reached.{HasTransInto, EntersAndReaches};
+ghost use Rattle.ta_core.specs.Reached.{ReachedFrom, HasTransInto, EntersAndReaches};
 
 use crate::automaton::Automaton;
 use crate::reached::Reached;
@@ -14,7 +14,7 @@ use ranked_terms::{Config, Term};
 use std::alloc::AllocError;
 
 impl Automaton {
-    /// The states to which the configuration runs (TATA, section 1.1). The only error is want of memory.
+    /// The states to which the configuration runs (TATA, section 1.1). The only error is running out of memory.
     pub fn run_states(&self, config: &Config) -> Result<StateSet, AllocError>
         ensures { IfOk result (λ all. (q : ℕ) → Contains all q ↔ Runs self.now config.now q) }
     {
@@ -22,7 +22,7 @@ impl Automaton {
         reached.to_set()
     }
 
-    /// Whether the ground term runs to a final state. The only error is want of memory.
+    /// Whether the ground term runs to a final state. The only error is running out of memory.
     pub fn accepts(&self, term: &Term) -> Result<bool, AllocError>
         ensures { IfOk result (λ yes. IsTrue yes ↔ Accepts self.now term.now) }
     {
@@ -31,12 +31,24 @@ impl Automaton {
     }
 
     /// The states to which the state runs: itself and, in any number of steps, where epsilon transitions lead; none
-    /// where it is no state of the automaton. The only error is want of memory.
+    /// where it is no state of the automaton. The only error is running out of memory.
     pub fn eps_closure(&self, state: u32) -> Result<StateSet, AllocError>
         ensures { IfOk result (λ all. (q : ℕ) → Contains all q ↔ Runs self.now (State state) q) }
     {
         let reached = self.reached_from(state)?;
         reached.to_set()
+    }
+
+    /// The states to which epsilon transitions lead from the members of the set, in any number of steps. The only error is
+    /// running out of memory.
+    pub fn closure_of(&self, set: &StateSet) -> Result<StateSet, AllocError>
+        requires { All (Contains self.now.states) set.now }
+        ensures { IfOk result (λ all. (q : ℕ) → Contains all q ↔ ReachedFrom self.now set.now q) }
+    {
+        let mut reached = Reached::new(self.alloc());
+        reached.add_all(set.as_slice())?;
+        let closed = reached.closed(self)?;
+        closed.to_set()
     }
 
     // The states to which the configuration runs, by one way over it.

@@ -1,10 +1,9 @@
-pub mod ListLaws
-pub mod TermLaws
 pub mod StepLaws
 pub mod OverLaws
 pub mod VariableLaws
 pub mod RepeatLaws
 pub mod RuleLaws
+pub mod CountedLaws
 pub mod RootLaws
 pub mod PartLaws
 pub mod DerivationLaws

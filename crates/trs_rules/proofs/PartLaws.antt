@@ -3,7 +3,7 @@ use Rattle.std.proofs.Common.{◌≡◌, ◌↔◌, ℕ, zero, suc, ◌+◌, Lis
 use Rattle.ranked_terms.specs.Terms.{node, instance_of}
 use Rattle.ranked_terms.specs.Positions.{Argument, InArgument, SubtermAt, ReplacedAt}
 use Rattle.ranked_terms.specs.declared.term.Term.{Term}
-use Rattle.ranked_terms.proofs.TermLaws.{node_args}
+use Rattle.ranked_terms.specs.lemmas.TermLaws.{node_args}
 use Rattle.trs_rules.specs.Rules.{RewriteRule}
 use Rattle.trs_rules.specs.Steps.{RootStep, StepAt}
 use Rattle.trs_rules.specs.Derivations.{IsStepBy}

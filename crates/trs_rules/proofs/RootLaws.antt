@@ -5,7 +5,7 @@ use Rattle.std.proofs.lemmas.Bool.{eq-eqb}
 use Rattle.ranked_terms.specs.Terms.{instance_of, occurrences, with_variable, variables_of}
 use Rattle.ranked_terms.specs.declared.term.Term.{Term}
 use Rattle.ranked_terms.specs.declared.term.Pattern.{Pattern}
-use Rattle.ranked_terms.proofs.VariableLaws.{occurrences-in_variables_of}
+use Rattle.ranked_terms.specs.lemmas.VariableLaws.{occurrences-in_variables_of}
 use Rattle.trs_rules.specs.Rules.{RewriteRule, IsRule}
 use Rattle.trs_rules.proofs.VariableLaws.{with_old}
 use Rattle.ranked_terms.specs.Matching.{Agrees, IsInstance, IsBoundBy, bound_in, bound_with, with_variables}

@@ -13,7 +13,7 @@ use Rattle.ranked_terms.specs.Terms.{instance_of, occurrences}
 use Rattle.ranked_terms.specs.Matching.{Agrees, IsInstance, IsBoundBy, IsInstanceBy, bound_in, bound_with}
 use Rattle.ranked_terms.specs.Positions.{HasPosition, SubtermAt, ReplacedAt}
 use Rattle.ranked_terms.specs.declared.term.Term.{Term}
-use Rattle.ranked_terms.proofs.VariableLaws.{occurrences-in_variables_of}
+use Rattle.ranked_terms.specs.lemmas.VariableLaws.{occurrences-in_variables_of}
 use Rattle.trs_rules.specs.Rules.{RewriteRule, IsRule}
 use Rattle.trs_rules.specs.Steps.{RootStep, StepAt}
 use Rattle.trs_rules.specs.Derivations.{AreSuccessors, AreStepsUpTo, IsTried, successor_order}

@@ -14,8 +14,6 @@ mod rule;
 mod sigma;
 mod step;
 mod successor;
-#[cfg(test)]
-mod tests;
 mod variables;
 
 pub use derivation::{DStep, Derivation, first_bad_step, replays};
@@ -23,5 +21,5 @@ pub use entry::Entry;
 pub use equation::Equation;
 pub use rule::{Rule, RuleFault, each_is_rule};
 pub use sigma::{Pair, Sigma};
+pub use variables::{TooManyVariables, Variables};
 pub use successor::{Successor, successors};
-pub use variables::TooManyVariables;

@@ -39,7 +39,14 @@ pub fn successors(alloc: Global, rules: &[Rule], t: &Term) -> Result<Seq<Success
 }
 
 // Adds the steps by one rule at these positions.
-fn add_steps(alloc: Global, rules: &[Rule], rule: u32, t: &Term, positions: &[Position], found: &mut Seq<Successor>) -> Result<(), AllocError>
+fn add_steps(
+    alloc: Global,
+    rules: &[Rule],
+    rule: u32,
+    t: &Term,
+    positions: &[Position],
+    found: &mut Seq<Successor>,
+) -> Result<(), AllocError>
     requires rule { rule < length rules.now }
     requires ascend { IsStrictlySortedBy (slice_cmp nat_cmp) positions.now }
     requires found { AreStepsUpTo rules.now t.now rule [] found.old }

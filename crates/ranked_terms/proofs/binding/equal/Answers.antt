@@ -1,5 +1,5 @@
 use Rattle.std.proofs.Common.{sym, ◌∙◌}
-use Rattle.ranked_terms.proofs.EqLaws.{eq-same, same-eq}
+use Rattle.ranked_terms.specs.lemmas.EqLaws.{eq-same, same-eq}
 use Rattle.ranked_terms.proofs.binding.equal.Goals as goal
 
 pub returns : goal.returns

@@ -1,4 +1,4 @@
-use Rattle.std.proofs.Common.{◌≡◌, ◌∙◌, ◌==◌, [], length, Option, refl, sym, ap, subst, true≢false}
+use Rattle.std.proofs.Common.{Option, subst}
 use Rattle.std.specs.Prelude.{MatchOption}
 use Rattle.ranked_terms.specs.Texts.{BeginsNoTerm, BeginsWith}
 use Rattle.ranked_terms.specs.declared.reading.Read.{Read}

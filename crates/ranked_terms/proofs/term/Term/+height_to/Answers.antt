@@ -1,5 +1,4 @@
-use Rattle.std.proofs.Common.{◌≡◌, ◌+◌, ◌-◌, ◌<◌, map, max, min, take, arith, ◌∙◌}
-use Rattle.ranked_terms.specs.Terms.{greatest, height_of}
+use Rattle.std.proofs.Common.{◌≡◌, max, arith, ◌∙◌}
 use Rattle.ranked_terms.proofs.BoundLaws.{greatest_more, height_capped, max_is}
 use Rattle.ranked_terms.proofs.term.Term.+height_to.Goals as goal
 

@@ -1,7 +1,6 @@
-use Rattle.std.proofs.Common.{◌≡◌, ◌+◌, ◌-◌, Some, None, drop, get_or, refl, sym, ap, ◌∙◌}
+use Rattle.std.proofs.Common.{◌+◌, ◌-◌, drop, get_or, refl, ap, ◌∙◌}
 use Rattle.std.specs.Prelude.{IsTrue, false}
 use Rattle.ranked_terms.specs.Positions.{IsSameBut}
-use Rattle.ranked_terms.proofs.PositionLaws.{args_of}
 use Rattle.ranked_terms.proofs.ChangeLaws.{change_down, next_change, not_replaced_by, change_here, no_pair}
 use Rattle.ranked_terms.proofs.term.Term.changed_at.Goals as goal
 

@@ -1,4 +1,4 @@
-use Rattle.std.proofs.Common.{◌≡◌, ◌≤◌, ◌-◌, ◌+◌, ◌<◌, drop, get_or, length, subst, sym, ap, ◌∙◌, arith}
+use Rattle.std.proofs.Common.{◌≤◌, ◌-◌, ◌+◌, drop, get_or, length, subst, ap, ◌∙◌, arith}
 use Rattle.ranked_terms.proofs.PositionLaws.{args_of, one_down, next_number}
 use Rattle.ranked_terms.proofs.term.Term.subterm.Goals as goal
 
