@@ -3,5 +3,9 @@ pub mod Names
 pub mod SignatureRules
 pub mod Terms
 pub mod Laws
+pub mod Matching
+pub mod Positions
+pub mod Texts
+pub mod TextLaws
 pub mod formers
 pub mod lemmas

@@ -1,4 +1,5 @@
 //! Laws of terms and patterns: what holds of the definitions alone, as contracts of calls that do nothing.
+ghost use Rattle.ranked_terms.specs.TextLaws.{TextsDiffer, OverIsNarrow};
 ghost use Rattle.ranked_terms.specs.Laws.{EqualTermsAreSame};
 ghost use Rattle.ranked_terms.specs.Laws.{SizesAddUp, HeightsWithinSizes, TermsStay, ConfigsDiffer, InstancesAgree};
 ghost use Rattle.ranked_terms.specs.Laws.{AssignedAgree, InstancesAreOver, VariablesOnce, FirstsInOrder};
@@ -21,4 +22,11 @@ pub fn of_patterns()
     ensures over { InstancesAreOver }
     ensures variables { VariablesOnce }
     ensures order { FirstsInOrder }
+{}
+
+/// Laws of terms over a signature: those with one printed text are one term, and each of their arguments can be named by
+/// 32 bits.
+pub fn of_terms_over()
+    ensures texts { TextsDiffer }
+    ensures narrow { OverIsNarrow }
 {}

@@ -4,15 +4,25 @@
 //! and keeps its arguments in a `Seq`, which contracts see as a list.
 #![tactic(auto)]
 
+mod binding;
 pub mod laws;
+mod matching;
+mod measures;
 mod name;
 mod position;
+mod positions;
+mod reading;
 mod seq;
 mod signature;
+mod subterm;
 mod term;
+mod text;
 
+pub use binding::Binding;
+pub use matching::{instance, match_term};
 pub use name::Name;
 pub use position::Position;
+pub use reading::{MAX_SIZE, term_from};
 pub use seq::Seq;
 pub use signature::{MAX_ARITY, MAX_NAME, MAX_SYMBOLS, SigError, Signature};
 pub use term::{Config, Pattern, Shape, Term};

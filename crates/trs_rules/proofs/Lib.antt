@@ -4,3 +4,7 @@ pub mod VariableLaws
 pub mod RepeatLaws
 pub mod RuleLaws
 pub mod CountedLaws
+pub mod RootLaws
+pub mod PartLaws
+pub mod DerivationLaws
+pub mod SuccessorLaws

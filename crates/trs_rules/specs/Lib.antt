@@ -4,3 +4,4 @@ pub mod Steps
 pub mod Laws
 pub mod Counted
 pub mod lemmas
+pub mod Derivations

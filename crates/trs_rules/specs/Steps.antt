@@ -1,7 +1,8 @@
 -- Rewriting of ground terms (Baader and Nipkow, Term Rewriting and All That, sections 3.1 and 4.2; TATA, section 1.2): a step by a rule at a position, a step anywhere, and chains of steps.
-use Rattle.std.specs.Prelude.{◌≡◌, ℕ, ◌+◌, ◌-◌, List, [], ◌∷◌, ◌++◌, length, Some}
+use Rattle.std.specs.Prelude.{◌≡◌, ℕ, ◌-◌, List, [], ◌∷◌, ◌++◌, length, Some}
 use Rattle.std.specs.List.{slice_get}
 use Rattle.ranked_terms.specs.Terms.{node, instance_of}
+use Rattle.ranked_terms.specs.Positions.{InArgument}
 use Rattle.ranked_terms.specs.declared.term.Term.{Term}
 use Rattle.trs_rules.specs.Rules.{RewriteRule}
 
@@ -12,18 +13,6 @@ pub record RootStep (R : List RewriteRule) (i : ℕ) (s t : Term) : Type 0 where
   pub θ : ℕ → Term
   pub from : s ≡ instance_of θ rule.left
   pub to : t ≡ instance_of θ rule.right
-
--- t is s with its k-th argument, counted from 1, changed by Q
-pub record InArgument (Q : Term → Term → Type 0) (k : ℕ) (s t : Term) : Type 0 where
-  pub sym : ℕ
-  pub before : List Term
-  pub u : Term
-  pub v : Term
-  pub after : List Term
-  pub place : k ≡ length before + 1
-  pub from : s ≡ node sym (before ++ u ∷ after)
-  pub to : t ≡ node sym (before ++ v ∷ after)
-  pub changes : Q u v
 
 -- a step by rule i at a position: the argument numbers on the way from the root
 abbrev pub StepAt : List RewriteRule → ℕ → List ℕ → Term → Term → Type 0

@@ -5,16 +5,21 @@
 //! itself, in the order in which they first occur, so that an assignment can be the list of their states.
 #![tactic(auto)]
 
+mod derivation;
 mod entry;
 mod equation;
 pub mod laws;
 mod occurrences;
 mod rule;
 mod sigma;
+mod step;
+mod successor;
 mod variables;
 
+pub use derivation::{DStep, Derivation, first_bad_step, replays};
 pub use entry::Entry;
 pub use equation::Equation;
 pub use rule::{Rule, RuleFault, each_is_rule};
 pub use sigma::{Pair, Sigma};
 pub use variables::{TooManyVariables, Variables};
+pub use successor::{Successor, successors};

@@ -1,0 +1,9 @@
+use Rattle.ranked_terms.proofs.PreorderLaws.{over_is_narrow}
+use Rattle.ranked_terms.proofs.ReadLaws.{texts_differ}
+use Rattle.ranked_terms.proofs.laws.of_terms_over.Goals as goal
+
+pub returns-clause-texts : goal.returns-clause-texts
+returns-clause-texts c = texts_differ
+
+pub returns-clause-narrow : goal.returns-clause-narrow
+returns-clause-narrow c = over_is_narrow
