@@ -10,6 +10,7 @@ use Rattle.std.proofs.lemmas.List.Elements.{All-head, All-tail, All-weaker, All-
 use Rattle.std.proofs.lemmas.Bool.Decides.{nat_tests}
 use Rattle.ta_core.specs.Orders.{has, IsUnion}
 use Rattle.ta_core.specs.TreeAutomaton.{TreeAutomaton, IsSound, IsTransOf, IsEpsOf}
+use Rattle.ta_core.specs.declared.trans.Trans.{Trans}
 use Rattle.ta_core.proofs.Members.{here, parts, none, contains_from_has, has_from_contains, inserted, kept, was}
 
 -- what holds of all members holds of all of a list whose members are those
@@ -67,3 +68,10 @@ sound_more A s room =
       trans = All-weaker (IsTransOf A.states) (IsTransOf states) (λ t h. record { args = All-weaker (Contains A.states) (Contains states) more t.args h.args; to = more t.to h.to }) A.trans s.trans;
       eps = All-weaker (IsEpsOf A.states) (IsEpsOf states) (λ e h. record { from = more e.0 h.from; to = more e.1 h.to; moves = h.moves }) A.eps s.eps;
     }
+
+-- without epsilon transitions
+pub sound_without : (A : TreeAutomaton) → IsSound A → (states finals : List ℕ) (trans : List Trans) (eps : List (ℕ × ℕ)) → states ≡ A.states → finals ≡ A.finals → trans ≡ A.trans → eps ≡ [] →
+    IsSound (record { states = states; next = A.next; finals = finals; trans = trans; eps = eps })
+sound_without A s states finals trans eps a b c d =
+    subst IsSound (λ i. record { states = sym a i; next = A.next; finals = sym b i; trans = sym c i; eps = sym d i })
+    (record { few = s.few; below = s.below; finals = s.finals; trans = s.trans; eps = all_from_members (IsEpsOf A.states) [] (λ e i. absurd (none e i)) })

@@ -44,6 +44,39 @@ module _ (keys : List ℕ) (q : ℕ) where
 abbrev pub HasTargets : List ℕ → List (ℕ × ℕ) → List ℕ → Type 0
 HasTargets set eps all = (q : ℕ) → Contains all q ↔ (Contains set q ⊎ ((p : ℕ) × Contains eps (p, q)))
 
+-- the states are added to the set
+abbrev pub HasAll : List ℕ → List ℕ → List ℕ → Type 0
+HasAll set xs all = (q : ℕ) → Contains all q ↔ (Contains set q ⊎ Contains xs q)
+
+pub has_none : (set : List ℕ) → HasAll set [] set
+has_none set q = (λ c. inl c, λ h. ⊎_elim (λ c. c) (λ n. absurd (none q n)) h)
+
+pub has_one_more : (set xs : List ℕ) (k d : ℕ) (all next : List ℕ) → k < length xs → HasAll set (take k xs) all → next ≡ insert_key ◌==◌ all (get_or xs k d) → HasAll set (take (k + 1) xs) next
+has_one_more set xs k d all next l h e q =
+    let x : ℕ = get_or xs k d in
+    let more : take (k + 1) xs ≡ take k xs ++ x ∷ [] = take_more xs k d l in
+    let inserted : Contains next q ↔ (Contains all q ⊎ (x ≡ q)) = subst (λ next. Contains next q ↔ (Contains all q ⊎ (x ≡ q))) (sym e) (members_insert all x q) in
+    rw more (
+      λ c. ⊎_elim
+          (λ i. ⊎_elim (λ old. inl old) (λ m. inr (Contains-append_left (take k xs) (x ∷ []) q m)) ((h q).0 i))
+          (λ same. inr (subst (λ y. Contains (take k xs ++ x ∷ []) y) same (Contains-push (take k xs) x)))
+          (inserted.0 c),
+      λ either. inserted.1 (⊎_elim
+          (λ old. inl ((h q).1 (inl old)))
+          (λ m. ⊎_elim (λ i. inl ((h q).1 (inr i))) (λ same. inr same) (Contains-push_cases (take k xs) x q m))
+          either),
+    )
+
+-- from the empty set on
+pub closure_from : (A : TreeAutomaton) (set start all : List ℕ) → start ≡ [] → HasAll start set all → (q : ℕ) → ReachedFrom A all q ↔ ReachedFrom A set q
+closure_from A set start all e h q = (
+  λ r. record { start = r.start; starts = ⊎_elim (λ c. absurd (none r.start (subst (λ xs. Contains xs r.start) e c))) (λ c. c) ((h r.start).0 r.starts); reaches = r.reaches },
+  λ r. record { start = r.start; starts = (h r.start).1 (inr r.starts); reaches = r.reaches },
+)
+
+pub all_from : (A : TreeAutomaton) (set start all : List ℕ) → start ≡ [] → HasAll start set all → All (Contains A.states) set → All (Contains A.states) all
+all_from A set start all e h a = all_from_members (Contains A.states) all (λ q c. ⊎_elim (λ m. absurd (none q (subst (λ xs. Contains xs q) e m))) (λ m. All-contains (Contains A.states) set q a m) ((h q).0 c))
+
 -- the set begins as the earlier one
 abbrev pub Keeps : List ℕ → List ℕ → Type 0
 Keeps set all = (rest : List ℕ) × (all ≡ set ++ rest)

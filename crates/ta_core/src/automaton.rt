@@ -109,6 +109,20 @@ impl Automaton {
         })
     }
 
+    /// The same automaton without its epsilon transitions. The only error is want of memory.
+    pub fn without_eps(&self) -> Result<Automaton, AllocError>
+        ensures { IfOk result (λ plain. plain ≡ record self.now { eps = [] }) }
+    {
+        Ok(Automaton {
+            alloc: self.alloc,
+            states: self.states.copy(self.alloc)?,
+            next: self.next,
+            finals: self.finals.copy(self.alloc)?,
+            trans: self.trans.copy(self.alloc)?,
+            eps: Sorted::new(self.alloc),
+        })
+    }
+
     /// Where the automaton's lists grow.
     pub(crate) fn alloc(&self) -> Global {
         self.alloc
