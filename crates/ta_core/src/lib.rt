@@ -10,6 +10,7 @@ pub mod laws;
 mod lookup;
 mod map;
 mod options;
+mod plain_runs;
 mod reached;
 mod runs;
 mod safety;
