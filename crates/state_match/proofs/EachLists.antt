@@ -74,39 +74,32 @@ module _ {P : List ℕ → ℕ → Type 0} where
 
 module _ {S V N : Type 0} (now : S → V) (name : S → N) (took : V → Match → V → Type 0) where
   abbrev pub Takes : S → Group → S → Type 0
-  Takes u g v = (name v ≡ name u) × (length g.sigma ≤ 16 → GoneThrough took (now u) (matches_of g) (now v))
+  Takes u g v = (name v ≡ name u) × GoneThrough took (now u) (matches_of g) (now v)
 
   abbrev pub Breaks : S → Group → S → Type 0
-  Breaks u g v = (name v ≡ name u) × (length g.sigma ≤ 16 → (first : List Match) × (rest : List Match) × (matches_of g ≡ first ++ rest) × GoneThrough took (now u) first (now v))
+  Breaks u g v = (name v ≡ name u) × ((first : List Match) × (rest : List Match) × (matches_of g ≡ first ++ rest) × GoneThrough took (now u) first (now v))
 
-  each_gone : (gs : List Group) (u v : S) → ((g : Group) → Contains gs g → length g.sigma ≤ 16) → GoneThrough Takes u (map (after []) gs) v → (name v ≡ name u) × GoneThrough took (now u) (flat_map matches_of gs) (now v)
-  each_gone [] u _ short GoneThrough.none = (refl, GoneThrough.none)
-  each_gone (g ∷ gs) u w short (GoneThrough.more {v = v} t rest) =
-      let b = each_gone gs v w (λ h c. short h (there g h gs c)) rest in
-      (b.0 ∙ t.0, through_append (t.1 (short g (here g gs))) b.1)
+  each_gone : (gs : List Group) (u v : S) → GoneThrough Takes u (map (after []) gs) v → (name v ≡ name u) × GoneThrough took (now u) (flat_map matches_of gs) (now v)
+  each_gone [] u _ GoneThrough.none = (refl, GoneThrough.none)
+  each_gone (g ∷ gs) u w (GoneThrough.more {v = v} t rest) =
+      let b = each_gone gs v w rest in
+      (b.0 ∙ t.0, through_append t.1 b.1)
 
-  module _ {P : List ℕ → ℕ → Type 0} (short : (σ : List ℕ) (q : ℕ) → P σ q → length σ ≤ 16) (u v : S) where
-    group_short : (g : Group) → IsGroup P g → length g.sigma ≤ 16
-    group_short g i = go g.states i.some (λ q c. (i.states.exact q).0 c)
-      where
-        go : (states : List ℕ) → 0 < length states → ((q : ℕ) → Contains states q → P g.sigma q) → length g.sigma ≤ 16
-        go [] l f = absurd (omega arith)
-        go (q ∷ qs) l f = short g.sigma q (f q (here q qs))
-
+  module _ {P : List ℕ → ℕ → Type 0} (u v : S) where
     pub each_all : TookAll Takes P [] u v → (name v ≡ name u) × ((all : List Match) × IsListing match_order (λ (m : Match). P m.sigma m.state) all × GoneThrough took (now u) all (now v))
     each_all t =
-        let a = each_gone t.groups u v (λ g c. group_short g (t.are.each g c)) t.gone in
+        let a = each_gone t.groups u v t.gone in
         (a.0, (flat_map matches_of t.groups, are_matches t.groups t.are, a.1))
 
     pub each_first : TookFirst Takes P [] u v ⊎ TookUpTo Takes Breaks P [] u v → (name v ≡ name u) × ((first : List Match) × IsFront match_order (λ (m : Match). P m.sigma m.state) first × GoneThrough took (now u) first (now v))
     each_first = ⊎_elim
         (λ t.
-        let a = each_gone t.groups u v (λ g c. group_short g (t.first.each g c)) t.gone in
+        let a = each_gone t.groups u v t.gone in
         (a.0, (flat_map matches_of t.groups, first_matches t.groups t.first, a.1)))
         (λ t.
         let gs = t.groups ++ t.last ∷ [] in
-        let a = each_gone t.groups u t.middle (λ g c. group_short g (t.first.each g (Contains-append_left t.groups (t.last ∷ []) g c))) t.gone in
-        let b = t.over.1 (group_short t.last (t.first.each t.last (Contains-append_right t.groups (t.last ∷ []) t.last (here t.last [])))) in
+        let a = each_gone t.groups u t.middle t.gone in
+        let b = t.over.1 in
         let before = flat_map matches_of t.groups in
         let whole : flat_map matches_of gs ≡ (before ++ b.0) ++ b.1 = flat_map_last t.groups t.last ∙ (ap (λ ms. before ++ ms) b.2 ∙ sym (append_assoc before b.0 b.1)) in (
           t.over.0 ∙ a.0,
@@ -124,11 +117,11 @@ all_of_groups true f g = f refl
 all_of_groups false f g = absurd ((g refl).over)
 
 -- the same where the variables are said in other words
-module _ {S V N : Type 0} (now : S → V) (name : S → N) (took : V → Match → V → Type 0) (P : List ℕ → List ℕ → ℕ → Type 0) (xs ys : List ℕ) (same : xs ≡ ys) (short : (σ : List ℕ) (q : ℕ) → P ys σ q → length σ ≤ 16) (u v : S) where
+module _ {S V N : Type 0} (now : S → V) (name : S → N) (took : V → Match → V → Type 0) (P : List ℕ → List ℕ → ℕ → Type 0) (xs ys : List ℕ) (same : xs ≡ ys) (u v : S) where
   pub each_all_at : (on : Bool) → (IsTrue on → TookAll (Takes now name took) (P xs) [] u v) → (IsTrue (not on) → TookUpTo (Takes now name took) (λ (u : S) (g : Group) (v : S). ⊥) (P xs) [] u v) →
       (name v ≡ name u) × ((all : List Match) × IsListing match_order (λ (m : Match). P ys m.sigma m.state) all × GoneThrough took (now u) all (now v))
-  each_all_at on f g = each_all now name took short u v (subst (λ zs. TookAll (Takes now name took) (P zs) [] u v) same (all_of_groups on f g))
+  each_all_at on f g = each_all now name took u v (subst (λ zs. TookAll (Takes now name took) (P zs) [] u v) same (all_of_groups on f g))
 
   pub each_first_at : TookFirst (Takes now name took) (P xs) [] u v ⊎ TookUpTo (Takes now name took) (Breaks now name took) (P xs) [] u v →
       (name v ≡ name u) × ((first : List Match) × IsFront match_order (λ (m : Match). P ys m.sigma m.state) first × GoneThrough took (now u) first (now v))
-  each_first_at t = each_first now name took short u v (subst (λ zs. TookFirst (Takes now name took) (P zs) [] u v ⊎ TookUpTo (Takes now name took) (Breaks now name took) (P zs) [] u v) same t)
+  each_first_at t = each_first now name took u v (subst (λ zs. TookFirst (Takes now name took) (P zs) [] u v ⊎ TookUpTo (Takes now name took) (Breaks now name took) (P zs) [] u v) same t)

@@ -93,40 +93,32 @@ record Adds' (u : Collector) (ms : List Match) (v : Collector) : Type 0 where
   limit : v.limit ≡ u.limit
   few : length u.found ≤ u.limit → length v.found ≤ v.limit
 
-gone : {u v : Collector} (gs : List Group) → ((g : Group) → Contains gs g → length g.sigma ≤ 16) → GoneThrough (λ (u : Collector) (g : Group) (v : Collector). length g.sigma ≤ 16 → Adds u g v) u (map (after []) gs) v →
+gone : {u v : Collector} (gs : List Group) → GoneThrough Adds u (map (after []) gs) v →
     Adds' u (flat_map matches_of gs) v
-gone [] short GoneThrough.none = record { found = sym (append-nil _); limit = refl; few = λ l. l }
-gone (g ∷ gs) short (GoneThrough.more {u = u} {v = v} {w = w} t rest) =
-    let a = t (short g (here g gs)) in
-    let b = gone gs (λ h c. short h (there g h gs c)) rest in
+gone [] GoneThrough.none = record { found = sym (append-nil _); limit = refl; few = λ l. l }
+gone (g ∷ gs) (GoneThrough.more {u = u} {v = v} {w = w} a rest) =
+    let b = gone gs rest in
     record {
       found = b.found ∙ (ap (λ ms. ms ++ flat_map matches_of gs) a.found ∙ append_assoc u.found (matches_of g) (flat_map matches_of gs));
       limit = b.limit ∙ a.limit;
       few = λ l. b.few (a.few l);
     }
 
-module _ {P : List ℕ → ℕ → Type 0} (short : (σ : List ℕ) (q : ℕ) → P σ q → length σ ≤ 16) (u v : Collector) (empty : u.found ≡ []) where
-  group_short : (g : Group) → IsGroup P g → length g.sigma ≤ 16
-  group_short g i = go g.states i.some (λ q c. (i.states.exact q).0 c)
-    where
-      go : (states : List ℕ) → 0 < length states → ((q : ℕ) → Contains states q → P g.sigma q) → length g.sigma ≤ 16
-      go [] l f = absurd (omega arith)
-      go (q ∷ qs) l f = short g.sigma q (f q (here q qs))
-
-  pub collected_all : TookAll (λ (u : Collector) (g : Group) (v : Collector). length g.sigma ≤ 16 → Adds u g v) P [] u v → IsListing match_order (λ (m : Match). P m.sigma m.state) v.found
+module _ {P : List ℕ → ℕ → Type 0} (u v : Collector) (empty : u.found ≡ []) where
+  pub collected_all : TookAll Adds P [] u v → IsListing match_order (λ (m : Match). P m.sigma m.state) v.found
   collected_all t =
-      let a = gone t.groups (λ g c. group_short g (t.are.each g c)) t.gone in
+      let a = gone t.groups t.gone in
       subst (IsListing match_order (λ (m : Match). P m.sigma m.state)) (sym (a.found ∙ ap (λ ms. ms ++ flat_map matches_of t.groups) empty)) (are_matches t.groups t.are)
 
-  pub collected_few : TookAll (λ (u : Collector) (g : Group) (v : Collector). length g.sigma ≤ 16 → Adds u g v) P [] u v → length v.found ≤ u.limit
+  pub collected_few : TookAll Adds P [] u v → length v.found ≤ u.limit
   collected_few t =
-      let a = gone t.groups (λ g c. group_short g (t.are.each g c)) t.gone in
+      let a = gone t.groups t.gone in
       omega (arith, a.few (omega (arith, ap (λ (ms : List Match). length ms) empty)), a.limit)
 
-  pub collected_more : TookUpTo (λ (u : Collector) (g : Group) (v : Collector). length g.sigma ≤ 16 → Adds u g v) Fills P [] u v → HasMoreThan u.limit (λ (m : Match). P m.sigma m.state)
+  pub collected_more : TookUpTo Adds Fills P [] u v → HasMoreThan u.limit (λ (m : Match). P m.sigma m.state)
   collected_more t =
       let gs = t.groups ++ t.last ∷ [] in
-      let a = gone t.groups (λ g c. group_short g (t.first.each g (Contains-append_left t.groups (t.last ∷ []) g c))) t.gone in
+      let a = gone t.groups t.gone in
       let f = t.over in
       let before = flat_map matches_of t.groups in
       let some : List Match = before ++ (f.first ++ f.next ∷ []) in

@@ -20,19 +20,15 @@ pub(crate) struct Collector {
 }
 
 impl Groups for Collector {
-    ghost use Rattle.std.specs.Prelude.{◌≤◌, length};
     ghost use Rattle.state_match.specs.Collected.{Adds, Fills};
 
-    ghost took = { λ u g v. length g.sigma ≤ 16 → Adds u g v };
+    ghost took = { λ u g v. Adds u g v };
 
     ghost ended = { λ u g v. Fills u g v };
 
     ghost broke = { λ u g v. Unit {0} };
 
     fn take(&mut self, assignment: &[u32], states: &[u32]) -> Result<bool, AllocError> {
-        if assignment.len() > 16 {
-            return Ok(true);
-        }
         for state in states {
             if self.found.len() == self.limit as usize {
                 return Ok(false);

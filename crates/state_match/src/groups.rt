@@ -1,5 +1,5 @@
 //! Matches by assignment.
-ghost use Rattle.std.specs.Prelude.{◌⊎◌, [], IsTrue, not, IfOk, OnErr};
+ghost use Rattle.std.specs.Prelude.{◌⊎◌, ◌≤◌, [], length, IsTrue, not, IfOk, OnErr};
 ghost use Rattle.state_match.specs.Matches.{MatchesAt};
 ghost use Rattle.state_match.specs.Groups.{group_of, TookAll, TookFirst, TookUpTo};
 
@@ -12,6 +12,9 @@ use ta_core::{Automaton, StateSet};
 
 /// Takes assignments one by one, each with all its states at once.
 pub trait Groups {
+    ghost use Rattle.std.specs.Prelude.{◌≤◌, length};
+    ghost use Rattle.std.specs.Ordering.{nat_cmp};
+    ghost use Rattle.std.specs.List.Sorted.{IsStrictlySortedBy};
     ghost use Rattle.state_match.specs.Groups.{Group};
 
     /// What taking an assignment does, where the visitor goes on.
@@ -23,17 +26,19 @@ pub trait Groups {
     /// What taking an assignment does, where memory runs out.
     ghost broke: { Self → Group → Self → Type 0 };
 
-    /// Takes an assignment with all its states, in ascending order, and says whether to go on. The only error is running out
-    /// of memory.
+    /// Takes an assignment of at most 16 states with all the states to which the pattern runs by it, in ascending order, and
+    /// says whether to go on. The only error is running out of memory.
     fn take(&mut self, assignment: &[u32], states: &[u32]) -> Result<bool, AllocError>
+        requires short { length assignment.now ≤ 16 }
+        requires ascend { IsStrictlySortedBy nat_cmp states.now }
         ensures took { IfOk result (λ on. IsTrue on → took self.old (group_of assignment.now states.now) self.new) }
         ensures ended { IfOk result (λ on. IsTrue (not on) → ended self.old (group_of assignment.now states.now) self.new) }
         ensures broke { OnErr result (broke self.old (group_of assignment.now states.now) self.new) };
 }
 
 /// Hands the assignments with which a pattern runs to some state to the visitor, in order, each with all these states, and
-/// says whether the visitor took them all. The assignments are lists of the states of `vars`, which may have more
-/// variables than the pattern. When memory runs out, which is the only error, the visitor has taken the first of them.
+/// says whether the visitor took them all. The assignments are lists of the states of `vars`, of which there are at most 16,
+/// and which may have more variables than the pattern. When memory runs out, which is the only error, the visitor has taken the first of them.
 pub fn each_group<V: Groups>(
     alloc: Global,
     automaton: &Automaton,
@@ -42,6 +47,7 @@ pub fn each_group<V: Groups>(
     plain: bool,
     visitor: &mut V,
 ) -> Result<bool, AllocError>
+    requires { length vars.now ≤ 16 }
     ensures whole { IfOk result (λ on. IsTrue on → TookAll V.took (MatchesAt plain automaton.now vars.now pattern.now) [] visitor.old visitor.new) }
     ensures ended { IfOk result (λ on. IsTrue (not on) → TookUpTo V.took V.ended (MatchesAt plain automaton.now vars.now pattern.now) [] visitor.old visitor.new) }
     ensures err { OnErr result (TookFirst V.took (MatchesAt plain automaton.now vars.now pattern.now) [] visitor.old visitor.new

@@ -1,5 +1,5 @@
 //! The walk over assignments.
-ghost use Rattle.std.specs.Prelude.{◌≡◌, ◌↔◌, ◌⊎◌, ℕ, List, [], ◌∷◌, length, Contains, IsTrue, not, IfOk, IfSome, IfNone, OnOk, OnErr};
+ghost use Rattle.std.specs.Prelude.{◌≡◌, ◌↔◌, ◌⊎◌, ◌+◌, ◌≤◌, ℕ, List, [], ◌∷◌, length, Contains, IsTrue, not, IfOk, IfSome, IfNone, OnOk, OnErr};
 ghost use Rattle.state_match.specs.Groups.{TookAll, TookFirst, TookUpTo};
 
 use crate::groups::Groups;
@@ -36,7 +36,8 @@ pub(crate) fn walk<N: Narrowed, V: Groups>(
     assignment: &mut Vec<u32>,
     visitor: &mut V,
 ) -> Result<bool, AllocError>
-    requires { (σ : List ℕ) (q : ℕ) → N.matches rest.now σ q → length σ ≡ more }
+    requires long { (σ : List ℕ) (q : ℕ) → N.matches rest.now σ q → length σ ≡ more }
+    requires short { length assignment.old.items + more ≤ 16 }
     ensures kept { OnOk result (assignment.new.items ≡ assignment.old.items) }
     ensures whole { IfOk result (λ on. IsTrue on → TookAll V.took (N.matches rest.now) assignment.old.items visitor.old visitor.new) }
     ensures ended { IfOk result (λ on. IsTrue (not on) → TookUpTo V.took V.ended (N.matches rest.now) assignment.old.items visitor.old visitor.new) }

@@ -47,7 +47,7 @@ returns-clause-whole g t c =
     let gone = c.loop-state.invariant.gone in
     record {
       groups = gone.groups;
-      are = passed_all c.as_slice-state-items.result.now c.loop-state.state-index c.args.more c.loop-state-test.false c.if-more-eq0.false c.requires
+      are = passed_all c.as_slice-state-items.result.now c.loop-state.state-index c.args.more c.loop-state-test.false c.if-more-eq0.false c.requires.long
           (λ s rest q p. subst (λ xs. Contains xs s) (sym c.as_slice-state-items.ensures.value) (c.in_ok-candidates.ensures s rest q p)) gone.groups gone.are;
       gone = gone.gone;
     }
@@ -55,7 +55,7 @@ returns-clause-whole g t c =
 pub returns-then-is_empty-clause-whole : goal.returns-then-is_empty-clause-whole
 returns-then-is_empty-clause-whole g t c = λ yes. record {
   groups = [];
-  are = none_left c.args.more c.as_slice.result.now c.if-more-eq0.true (sym c.is_empty.ensures ∙ c.if-is_empty.true) c.requires
+  are = none_left c.args.more c.as_slice.result.now c.if-more-eq0.true (sym c.is_empty.ensures ∙ c.if-is_empty.true) c.requires.long
       (λ q. subst (λ xs. Contains xs q ↔ g.N.Narrowed.matches c.args.rest.now [] q) (sym c.as_slice.ensures.value) (c.in_ok-states.ensures q));
   gone = GoneThrough.none;
 }
@@ -66,7 +66,7 @@ returns-then-more-eq0-clause-whole g t c =
     (λ on h yes. one_left g.V.Groups.took c.args.visitor.now c.take.new.self c.args.assignment.now.items c.as_slice-then-more-eq0-2.result.now
     (whole_one c.args.more c.as_slice-then-more-eq0-2.result.now c.if-more-eq0.true
     (ap (λ xs. length xs == 0) (c.as_slice-then-more-eq0-2.ensures.value ∙ sym c.as_slice.ensures.value) ∙ sym c.is_empty.ensures ∙ c.if-is_empty.false)
-    (subst (IsStrictlySortedBy nat_cmp) (sym c.as_slice-then-more-eq0-2.ensures.value) c.as_slice-then-more-eq0-2.ensures.sorted) c.requires
+    (subst (IsStrictlySortedBy nat_cmp) (sym c.as_slice-then-more-eq0-2.ensures.value) c.as_slice-then-more-eq0-2.ensures.sorted) c.requires.long
     (λ q. subst (λ xs. Contains xs q ↔ g.N.Narrowed.matches c.args.rest.now [] q) (sym c.as_slice-then-more-eq0-2.ensures.value) (c.in_ok-states.ensures q)))
     (subst (λ xs. g.V.Groups.took c.args.visitor.now (group_of xs c.as_slice-then-more-eq0-2.result.now) c.take.new.self) c.as_slice-then-more-eq0.ensures.value (h yes)))
     c.take.ensures.took
@@ -77,7 +77,7 @@ returns-then-more-eq0-clause-ended g t c =
     (λ on h yes. one_over g.V.Groups.took g.V.Groups.ended c.args.visitor.now c.take.new.self c.args.assignment.now.items c.as_slice-then-more-eq0-2.result.now
     (whole_one c.args.more c.as_slice-then-more-eq0-2.result.now c.if-more-eq0.true
     (ap (λ xs. length xs == 0) (c.as_slice-then-more-eq0-2.ensures.value ∙ sym c.as_slice.ensures.value) ∙ sym c.is_empty.ensures ∙ c.if-is_empty.false)
-    (subst (IsStrictlySortedBy nat_cmp) (sym c.as_slice-then-more-eq0-2.ensures.value) c.as_slice-then-more-eq0-2.ensures.sorted) c.requires
+    (subst (IsStrictlySortedBy nat_cmp) (sym c.as_slice-then-more-eq0-2.ensures.value) c.as_slice-then-more-eq0-2.ensures.sorted) c.requires.long
     (λ q. subst (λ xs. Contains xs q ↔ g.N.Narrowed.matches c.args.rest.now [] q) (sym c.as_slice-then-more-eq0-2.ensures.value) (c.in_ok-states.ensures q)))
     (subst (λ xs. g.V.Groups.ended c.args.visitor.now (group_of xs c.as_slice-then-more-eq0-2.result.now) c.take.new.self) c.as_slice-then-more-eq0.ensures.value (h yes)))
     c.take.ensures.ended
@@ -88,7 +88,7 @@ returns-then-more-eq0-clause-err g t c =
     (λ h. inr (one_over g.V.Groups.took g.V.Groups.broke c.args.visitor.now c.take.new.self c.args.assignment.now.items c.as_slice-then-more-eq0-2.result.now
     (whole_one c.args.more c.as_slice-then-more-eq0-2.result.now c.if-more-eq0.true
     (ap (λ xs. length xs == 0) (c.as_slice-then-more-eq0-2.ensures.value ∙ sym c.as_slice.ensures.value) ∙ sym c.is_empty.ensures ∙ c.if-is_empty.false)
-    (subst (IsStrictlySortedBy nat_cmp) (sym c.as_slice-then-more-eq0-2.ensures.value) c.as_slice-then-more-eq0-2.ensures.sorted) c.requires
+    (subst (IsStrictlySortedBy nat_cmp) (sym c.as_slice-then-more-eq0-2.ensures.value) c.as_slice-then-more-eq0-2.ensures.sorted) c.requires.long
     (λ q. subst (λ xs. Contains xs q ↔ g.N.Narrowed.matches c.args.rest.now [] q) (sym c.as_slice-then-more-eq0-2.ensures.value) (c.in_ok-states.ensures q)))
     (subst (λ xs. g.V.Groups.broke c.args.visitor.now (group_of xs c.as_slice-then-more-eq0-2.result.now) c.take.new.self) c.as_slice-then-more-eq0.ensures.value h)))
     c.take.ensures.broke
@@ -102,28 +102,28 @@ returns-in_err-candidates-clause-err g t c = on_err_from c.from_residual-in_err-
 pub returns-in_err-next-clause-err : goal.returns-in_err-next-clause-err
 returns-in_err-next-clause-err g t c =
     on_err_from c.from_residual-in_err-next.result (inl (stopped_before g.V.Groups.took c.as_slice-state-items.result.now c.in_ok-candidates.candidates c.as_slice-state-items.ensures.value c.loop-state.state-index c.args.more
-    c.loop-state-test.true c.as_slice-state-items.ensures.sorted c.if-more-eq0.false c.requires c.in_ok-candidates.ensures c.args.assignment.now.items c.loop-state.invariant.gone))
+    c.loop-state-test.true c.as_slice-state-items.ensures.sorted c.if-more-eq0.false c.requires.long c.in_ok-candidates.ensures c.args.assignment.now.items c.loop-state.invariant.gone))
 
 pub returns-in_err-push-clause-err : goal.returns-in_err-push-clause-err
 returns-in_err-push-clause-err g t c =
     on_err_from c.from_residual-in_err-push.result (inl (stopped_before g.V.Groups.took c.as_slice-state-items.result.now c.in_ok-candidates.candidates c.as_slice-state-items.ensures.value c.loop-state.state-index c.args.more
-    c.loop-state-test.true c.as_slice-state-items.ensures.sorted c.if-more-eq0.false c.requires c.in_ok-candidates.ensures c.args.assignment.now.items c.loop-state.invariant.gone))
+    c.loop-state-test.true c.as_slice-state-items.ensures.sorted c.if-more-eq0.false c.requires.long c.in_ok-candidates.ensures c.args.assignment.now.items c.loop-state.invariant.gone))
 
 pub returns-in_err-on-clause-err : goal.returns-in_err-on-clause-err
 returns-in_err-on-clause-err g t c =
     on_err_from c.from_residual-in_err-on.result (⊎_elim
     (λ x. inl (stopped_in g.V.Groups.took c.as_slice-state-items.result.now c.in_ok-candidates.candidates c.as_slice-state-items.ensures.value c.loop-state.state-index c.args.more
-    c.loop-state-test.true c.as_slice-state-items.ensures.sorted c.if-more-eq0.false c.requires c.in_ok-candidates.ensures c.args.assignment.now.items
+    c.loop-state-test.true c.as_slice-state-items.ensures.sorted c.if-more-eq0.false c.requires.long c.in_ok-candidates.ensures c.args.assignment.now.items
     (IfSome-at_some (λ next. (rest : List ℕ) (q : ℕ) → g.N.Narrowed.matches next rest q ↔ g.N.Narrowed.matches c.args.rest.now (get_or c.as_slice-state-items.result.now c.loop-state.state-index 0 ∷ rest) q) c.in-Some.is c.in_ok-next.ensures.some)
     c.push.new.self.items (pushed _ c.in_ok-push.ensures.items c.loop-state.invariant.kept) c.loop-state.invariant.gone x))
     (λ x. inr (ended_in g.V.Groups.took c.as_slice-state-items.result.now c.in_ok-candidates.candidates c.as_slice-state-items.ensures.value c.loop-state.state-index c.args.more
-    c.loop-state-test.true c.as_slice-state-items.ensures.sorted c.if-more-eq0.false c.requires c.in_ok-candidates.ensures c.args.assignment.now.items
+    c.loop-state-test.true c.as_slice-state-items.ensures.sorted c.if-more-eq0.false c.requires.long c.in_ok-candidates.ensures c.args.assignment.now.items
     (IfSome-at_some (λ next. (rest : List ℕ) (q : ℕ) → g.N.Narrowed.matches next rest q ↔ g.N.Narrowed.matches c.args.rest.now (get_or c.as_slice-state-items.result.now c.loop-state.state-index 0 ∷ rest) q) c.in-Some.is c.in_ok-next.ensures.some)
     c.push.new.self.items (pushed _ c.in_ok-push.ensures.items c.loop-state.invariant.kept) c.loop-state.invariant.gone g.V.Groups.broke x)) c.in_err-on.ensures.err)
 
 pub returns-then-not-on-clause-ended : goal.returns-then-not-on-clause-ended
 returns-then-not-on-clause-ended g t c = λ yes.
     ended_in g.V.Groups.took c.as_slice-state-items.result.now c.in_ok-candidates.candidates c.as_slice-state-items.ensures.value c.loop-state.state-index c.args.more
-    c.loop-state-test.true c.as_slice-state-items.ensures.sorted c.if-more-eq0.false c.requires c.in_ok-candidates.ensures c.args.assignment.now.items
+    c.loop-state-test.true c.as_slice-state-items.ensures.sorted c.if-more-eq0.false c.requires.long c.in_ok-candidates.ensures c.args.assignment.now.items
     (IfSome-at_some (λ next. (rest : List ℕ) (q : ℕ) → g.N.Narrowed.matches next rest q ↔ g.N.Narrowed.matches c.args.rest.now (get_or c.as_slice-state-items.result.now c.loop-state.state-index 0 ∷ rest) q) c.in-Some.is c.in_ok-next.ensures.some)
     c.push.new.self.items (pushed _ c.in_ok-push.ensures.items c.loop-state.invariant.kept) c.loop-state.invariant.gone g.V.Groups.ended (c.in_ok-on.ensures.ended (ap not c.if-not-on.true))

@@ -18,5 +18,5 @@ pub returns-in_err-visit-clause-broke : goal.returns-in_err-visit-clause-broke
 returns-in_err-visit-clause-broke g c =
     on_err_from c.from_residual.result (
       c.loop-state.invariant.same,
-      λ short. go_rest g.V.Visit.took c.args.assignment.now c.args.states.now c.loop-state.state-index c.loop-state.invariant.gone c.in_err-visit.ensures.err,
+      go_rest g.V.Visit.took c.args.assignment.now c.args.states.now c.loop-state.state-index c.loop-state.invariant.gone c.in_err-visit.ensures.err,
     )
