@@ -1,12 +1,9 @@
 //! A pattern whose first variables stand for states.
 ghost use Rattle.std.specs.Prelude.{◌≡◌, ◌↔◌, ℕ, [], Contains, IfOk};
-ghost use Rattle.ranked_terms.specs.Terms.{assigned};
-ghost use Rattle.ta_core.specs.Closure.{state_in};
-ghost use Rattle.ta_core.specs.Runs.{Runs};
 ghost use Rattle.state_match.specs.Rows.{IsReverse, RunsFor};
 
-use crate::assign::assign;
-use crate::join::{narrow, value};
+use crate::assigned::assigned_states;
+use crate::join::narrow;
 use crate::walk::Narrowed;
 use ranked_terms::Pattern;
 use std::alloc::{AllocError, Global};
@@ -121,32 +118,15 @@ impl<'a> Narrowed for Bound<'a> {
             return no_states(self.alloc);
         }
         let bound = self.states.as_slice();
-        match value(
+        assigned_states(
             self.alloc,
             self.runs,
             self.all,
+            self.pattern,
             self.vars,
             bound,
-            self.pattern,
-        )? {
-            Some(states) => Ok(states),
-            None => all_states(self.alloc, self.runs, self.pattern, self.vars, bound),
-        }
+        )
     }
-}
-
-/// The states to which the pattern runs, a variable that is none of these as the state 0. The only error is running out of memory.
-fn all_states(
-    alloc: Global,
-    runs: &Automaton,
-    pattern: &Pattern,
-    vars: &[u32],
-    bound: &[u32],
-) -> Result<StateSet, AllocError>
-    ensures { IfOk result (λ all. (q : ℕ) → Contains all q ↔ Runs runs.now (assigned (state_in vars.now bound.now) pattern.now) q) }
-{
-    let config = assign(alloc, pattern, vars, bound)?;
-    runs.run_states(&config)
 }
 
 /// The empty set. The only error is running out of memory.

@@ -70,7 +70,7 @@ pub fn matches(
     ensures more { IsErrOf result MatchError.More → HasMoreThan limit (IsMatch false automaton.now pattern.now) }
 {
     let Ok(vars) = Variables::of(pattern) else {
-        return Err(MatchError::Memory);
+        unreachable!();
     };
     collected(alloc, automaton, pattern, vars.as_slice(), false, limit)
 }
@@ -89,7 +89,7 @@ pub fn plain_matches(
     ensures more { IsErrOf result MatchError.More → HasMoreThan limit (IsMatch true automaton.now pattern.now) }
 {
     let Ok(vars) = Variables::of(pattern) else {
-        return Err(MatchError::Memory);
+        unreachable!();
     };
     collected(alloc, automaton, pattern, vars.as_slice(), true, limit)
 }
@@ -108,7 +108,7 @@ pub fn each_match<V: Visit>(
     ensures err { OnErr result ((first : List Found) × AreFirstMatches plain automaton.now pattern.now first × GoneThrough V.took visitor.old first visitor.new) }
 {
     let Ok(vars) = Variables::of(pattern) else {
-        return Err(AllocError);
+        unreachable!();
     };
     let mut each = Each { alloc, visitor };
     let result = each_group(alloc, automaton, pattern, vars.as_slice(), plain, &mut each);
