@@ -27,7 +27,7 @@ pub record HasMatch (gs : List Group) (m : Match) : Type 0 where
   pub same : m.sigma ≡ group.sigma
   pub state : Contains group.states m.state
 
-of_group : (g : Group) (m : Match) → Contains (matches_of g) m → (m.sigma ≡ g.sigma) × Contains g.states m.state
+pub of_group : (g : Group) (m : Match) → Contains (matches_of g) m → (m.sigma ≡ g.sigma) × Contains g.states m.state
 of_group g m c =
     let h = map_had (match_of g.sigma) g.states m c in
     (sym (ap (λ (x : Match). x.sigma) h.2), subst (Contains g.states) (ap (λ (x : Match). x.state) h.2) h.1)
@@ -49,14 +49,14 @@ has (g ∷ gs) m h = ⊎_elim
     (λ later. Contains-append_right (matches_of g) (flat_map matches_of gs) m (has gs m (record { group = h.group; has = later; same = h.same; state = h.state })))
     (parts g h.group gs h.has)
 
-one_ascends' : (g : Group) → IsStrictlySortedBy nat_cmp g.states → IsStrictlySortedBy match_order (matches_of g)
-one_ascends' g s = ascends_map nat_cmp match_order (match_of g.sigma) (λ p q l. ap (λ r. ordering_then r (nat_cmp p q)) (tied_itself nat_list_cmp_total g.sigma) ∙ l) g.states s
+pub group_ascends : (g : Group) → IsStrictlySortedBy nat_cmp g.states → IsStrictlySortedBy match_order (matches_of g)
+group_ascends g s = ascends_map nat_cmp match_order (match_of g.sigma) (λ p q l. ap (λ r. ordering_then r (nat_cmp p q)) (tied_itself nat_list_cmp_total g.sigma) ∙ l) g.states s
 
 pub matches_ascend : (gs : List Group) → IsStrictlySortedBy group_order gs → ((g : Group) → Contains gs g → IsStrictlySortedBy nat_cmp g.states) → IsStrictlySortedBy match_order (flat_map matches_of gs)
 unfolding IsStrictlySortedBy
 matches_ascend [] s each = nothing_ascends match_order
 matches_ascend (g ∷ gs) s each =
-    ascends_append match_order (matches_of g) (flat_map matches_of gs) (one_ascends' g (each g (here g gs))) (matches_ascend gs s.1 (λ h c. each h (there g h gs c))) (λ m n c d.
+    ascends_append match_order (matches_of g) (flat_map matches_of gs) (group_ascends g (each g (here g gs))) (matches_ascend gs s.1 (λ h c. each h (there g h gs c))) (λ m n c d.
     let a = of_group g m c in
     let b = had gs n d in
     let below : slice_cmp nat_cmp g.sigma b.group.sigma ≡ Less = All-contains (λ h. group_order g h ≡ Less) gs b.group (All-from_recursion (λ h. group_order g h ≡ Less) gs s.0) b.has in
