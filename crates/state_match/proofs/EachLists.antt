@@ -1,5 +1,5 @@
 -- The visitor's way through the matches of groups.
-use Rattle.std.proofs.Common.{◌≡◌, ◌<◌, ◌+◌, ℕ, List, [], ◌∷◌, ◌++◌, map, take, drop, get_or, length, ◌≤◌, ◌⊎◌, refl, sym, ap, ◌∙◌, subst, inl, inr, ⊎_elim, All, Contains, Result, OnErr, Bool, true, false, not, IsTrue, arith}
+use Rattle.std.proofs.Common.{◌≡◌, ◌<◌, ◌+◌, ℕ, List, [], ◌∷◌, ◌++◌, map, take, drop, get_or, length, ◌⊎◌, refl, sym, ap, ◌∙◌, subst, inl, inr, ⊎_elim, Contains, Bool, true, false, not, IsTrue}
 use Rattle.std.specs.declared.cmp.Ordering.{Ordering}
 use Rattle.std.specs.declared.cmp.Ordering.TheVariants.{Less}
 use Rattle.std.specs.Ordering.{nat_cmp, ordering_then}
@@ -10,12 +10,12 @@ use Rattle.std.proofs.lemmas.List.{append_assoc}
 use Rattle.std.proofs.lemmas.List.Elements.{All-contains, All-from_recursion, Contains-append_cases, Contains-append_left, Contains-append_right}
 use Rattle.ta_core.proofs.Keys.{all_from_members}
 use Rattle.state_match.specs.Matches.{match_order}
-use Rattle.state_match.proofs.Members.{here, there, none, parts}
-use Rattle.state_match.proofs.MatchLists.{HasMatch, had, has, matches_ascend, are_matches, each_match, beginning, flat_map_last}
+use Rattle.state_match.proofs.Members.{none, parts}
+use Rattle.state_match.proofs.MatchLists.{had, has, matches_ascend, are_matches, each_match, beginning, flat_map_last}
 use Rattle.std.proofs.lemmas.List.{take_more, take-append-drop, map-append}
 use Rattle.ranked_terms.specs.Listings.{IsListing, IsFront}
 use Rattle.state_match.specs.Visits.{GoneThrough}
-use Rattle.state_match.specs.Groups.{Group, group_of, after, IsGroup, AreGroups, AreFirstGroups, TookAll, TookFirst, TookUpTo}
+use Rattle.state_match.specs.Groups.{Group, group_of, after, AreFirstGroups, TookAll, TookFirst, TookUpTo}
 use Rattle.state_match.specs.Collected.{match_of, matches_of}
 use Rattle.state_match.specs.declared.lists.Match.{Match}
 use Rattle.state_match.proofs.GroupLists.{through_append}

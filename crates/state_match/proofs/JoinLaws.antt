@@ -1,5 +1,5 @@
 -- From the states of arguments to those of an application, and back.
-use Rattle.std.proofs.Common.{◌≡◌, ◌↔◌, ◌<◌, ◌≤◌, ◌+◌, ℕ, zero, suc, List, [], ◌∷◌, ◌++◌, length, take, drop, map, get_or, refl, sym, ap, ◌∙◌, subst, inl, inr, ⊎_elim, Bool, true, false, ◌==◌, arith}
+use Rattle.std.proofs.Common.{◌≡◌, ◌↔◌, ◌<◌, ◌≤◌, ◌+◌, ℕ, zero, suc, List, [], ◌∷◌, ◌++◌, length, take, drop, map, get_or, refl, sym, ap, ◌∙◌, subst, inr, Bool, true, false, ◌==◌, arith}
 use Rattle.std.specs.List.{Contains, All, AllZip, position_or_len}
 use Rattle.std.proofs.lemmas.List.{take_more, take_all, drop_more, map-append, take-append-drop}
 use Rattle.std.proofs.lemmas.List.Elements.{All-contains}
@@ -12,11 +12,10 @@ use Rattle.ta_core.specs.TreeAutomaton.{TreeAutomaton, IsSound, IsTransOf, IsEps
 use Rattle.ta_core.specs.Orders.{IsUnion}
 use Rattle.ta_core.specs.Runs.{Runs, RunsAll, Reaches}
 use Rattle.ta_core.specs.Reached.{ReachedFrom, HasTransInto, EntersAndReaches}
-use Rattle.ta_core.specs.declared.trans.Trans.{Trans}
 use Rattle.ta_core.proofs.Keys.{all_from_members}
 use Rattle.ta_core.proofs.RunsLaws.{run_of_app, run_of_state, run_of_plain, plain_of_run}
 use Rattle.ta_core.proofs.RunStates.{AreExact, exact_more, runs_of_app, zip_length, entered_and_reached}
-use Rattle.state_match.specs.Rows.{key_of, FitsFrom, IsNext, IsNextAt, IsClosedBack, IsReverse, turn, RunsFor}
+use Rattle.state_match.specs.Rows.{FitsFrom, IsNextAt, IsClosedBack, IsReverse, turn, RunsFor}
 use Rattle.state_match.proofs.Members.{here, there, map_has, map_had}
 
 -- ---- sets of states at their places

@@ -1,5 +1,5 @@
 -- From groups to matches.
-use Rattle.std.proofs.Common.{◌≡◌, ◌↔◌, ◌⊎◌, ◌<◌, ◌≤◌, ℕ, ◌+◌, take, drop, get_or, List, [], ◌∷◌, ◌++◌, map, length, refl, sym, ap, ◌∙◌, subst, inl, inr, ⊎_elim, All, Contains, append_assoc, append-nil, arith}
+use Rattle.std.proofs.Common.{◌≡◌, ◌<◌, ◌≤◌, ℕ, ◌+◌, take, drop, get_or, List, [], ◌∷◌, ◌++◌, map, length, refl, sym, ap, ◌∙◌, subst, ⊎_elim, Contains, append_assoc, append-nil, arith}
 use Rattle.std.specs.declared.cmp.Ordering.{Ordering}
 use Rattle.std.specs.declared.cmp.Ordering.TheVariants.{Less}
 use Rattle.std.specs.Ordering.{nat_cmp, ordering_then}
@@ -13,7 +13,7 @@ use Rattle.ranked_terms.specs.Listings.{IsListing, HasMoreThan}
 use Rattle.state_match.specs.Visits.{GoneThrough}
 use Rattle.ranked_terms.proofs.Listings.{distinct_if_ascends}
 use Rattle.state_match.specs.Matches.{match_order}
-use Rattle.state_match.specs.Groups.{Group, group_of, after, group_order, IsGroup, AreGroups, AreFirstGroups, TookAll, TookUpTo}
+use Rattle.state_match.specs.Groups.{Group, group_of, after, group_order, AreGroups, AreFirstGroups, TookAll, TookUpTo}
 use Rattle.state_match.specs.Collected.{match_of, matches_of, Adds, Fills}
 use Rattle.state_match.specs.declared.lists.Match.{Match}
 use Rattle.state_match.specs.declared.collect.Collector.{Collector}

@@ -1,8 +1,6 @@
-use Rattle.std.proofs.Common.{ℕ, [], ◌++◌, ◌↔◌, Contains, sym, ap, subst, List}
+use Rattle.std.proofs.Common.{ℕ, [], ◌↔◌, Contains, subst, List}
 use Rattle.std.proofs.lemmas.List.{append-nil}
-use Rattle.std.proofs.lemmas.Result.{IfOk-weaker}
 use Rattle.ranked_terms.specs.Terms.{assigned}
-use Rattle.ranked_terms.specs.declared.term.Config.{Config}
 use Rattle.ta_core.specs.Closure.{state_in}
 use Rattle.ta_core.specs.Runs.{Runs}
 use Rattle.state_match.proofs.GroupLists.{IfSome-at_some}

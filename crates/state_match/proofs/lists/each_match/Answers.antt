@@ -1,4 +1,4 @@
-use Rattle.std.proofs.Common.{◌≡◌, ℕ, List, rules, ◌∙◌, sym, ap, subst, arith}
+use Rattle.std.proofs.Common.{rules, ◌∙◌}
 use Rattle.state_match.specs.Matches.{MatchesAt}
 use Rattle.ranked_terms.specs.Terms.{variables_of}
 use Rattle.state_match.proofs.Fronts.{on_err_from}

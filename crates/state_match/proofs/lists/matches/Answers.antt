@@ -1,4 +1,4 @@
-use Rattle.std.proofs.Common.{◌≡◌, ℕ, List, false, IfOk, IsErrOf, ◌∙◌, subst}
+use Rattle.std.proofs.Common.{ℕ, List, false, IfOk, IsErrOf, ◌∙◌, subst}
 use Rattle.ranked_terms.specs.Listings.{IsListing, HasMoreThan}
 use Rattle.state_match.specs.Matches.{MatchesAt, match_order}
 use Rattle.state_match.specs.declared.lists.Match.{Match}

@@ -1,6 +1,5 @@
-use Rattle.std.proofs.Common.{◌≡◌, ◌++◌, List, length, map, take, drop, refl, sym, ap, ◌∙◌, subst}
+use Rattle.std.proofs.Common.{refl}
 use Rattle.state_match.specs.Visits.{GoneThrough}
-use Rattle.state_match.specs.Collected.{match_of}
 use Rattle.state_match.proofs.Fronts.{on_err_from}
 use Rattle.state_match.proofs.EachLists.{go_on, go_rest}
 use Rattle.state_match.proofs.each.EachGroups.take.Goals as goal
