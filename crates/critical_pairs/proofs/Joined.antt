@@ -4,9 +4,9 @@ use Rattle.std.specs.declared.cmp.Ordering.{Ordering}
 use Rattle.std.specs.declared.cmp.Ordering.TheVariants.{Less}
 use Rattle.std.specs.List.Sorted.{IsStrictlySortedBy}
 use Rattle.std.proofs.lemmas.List.Elements.{Contains-append_left, Contains-append_right, Contains-append_cases}
-use Rattle.ranked_terms.specs.Listings.{IsListing}
-use Rattle.ta_core.proofs.Ascending.{ascends-append}
-use Rattle.ta_core.proofs.Members.{none}
+use Rattle.list_laws.specs.Listings.{IsListing}
+use Rattle.list_laws.proofs.Ascending.{ascends-append}
+use Rattle.list_laws.proofs.Members.{none}
 
 pub listing_none : {X : Type 0} {c : X → X → Ordering} {P : X → Type 0} → IsStrictlySortedBy c [] → ((x : X) → P x → ⊥) → IsListing c P []
 listing_none s never = record { ascends = s; exact = λ x. (λ m. absurd (none x m), λ p. absurd (never x p)) }

@@ -7,17 +7,17 @@ use Rattle.std.specs.List.Sorted.{IsStrictlySortedBy}
 use Rattle.std.proofs.lemmas.Cmp.{nat_cmp_total, nat_list_cmp_total, tied_itself}
 use Rattle.std.proofs.lemmas.List.{length-map}
 use Rattle.std.proofs.lemmas.List.Elements.{All-contains, All-from_recursion, recursion_from_All, Contains-get_or, Contains-append_left, Contains-append_right}
-use Rattle.ranked_terms.specs.Listings.{IsListing}
+use Rattle.list_laws.specs.Listings.{IsListing}
 use Rattle.trs_rules.specs.declared.sigma.Pair.{Pair}
 use Rattle.ranked_terms.specs.declared.term.Pattern.{Pattern}
 use Rattle.ta_core.specs.Runs.{Runs}
 use Rattle.ranked_terms.specs.Terms.{assigned}
 use Rattle.ta_core.specs.Closure.{state_in, assigned_by}
 use Rattle.ta_core.specs.ClosureLaws.{pair_order}
-use Rattle.ta_core.proofs.Ascending.{ascends-map, second_decides}
-use Rattle.ta_core.proofs.OpenPairs.{map_has, map_had}
-use Rattle.ta_core.proofs.Members.{here, there, parts, none}
-use Rattle.ta_core.proofs.Places.{nothing_ascends}
+use Rattle.list_laws.proofs.Ascending.{ascends-map, second_decides}
+use Rattle.list_laws.proofs.Members.{map_has, map_had}
+use Rattle.list_laws.proofs.Members.{here, there, parts, none}
+use Rattle.list_laws.proofs.Places.{nothing_ascends}
 use Rattle.state_match.specs.Visits.{GoneThrough}
 use Rattle.state_match.specs.Matches.{MatchesAt}
 use Rattle.state_match.specs.Groups.{Group, group_of, group_order, after, IsGroup, TookAll, TookUpTo}

@@ -3,8 +3,8 @@ use Rattle.std.proofs.Common.{◌≡◌, ◌↔◌, ◌<◌, ◌+◌, ℕ, Bool,
 use Rattle.std.specs.List.{filter, list_any}
 use Rattle.std.proofs.lemmas.List.{append-nil}
 use Rattle.std.proofs.lemmas.List.Elements.{filter_more}
-use Rattle.ta_core.proofs.Members.{here, there, parts, none}
-use Rattle.ta_core.proofs.ReachedSets.{is_member}
+use Rattle.list_laws.proofs.Members.{here, there, parts, none}
+use Rattle.list_laws.proofs.Members.{is_member}
 
 equal : (a b : Bool) → (a ≡ true → b ≡ true) → (b ≡ true → a ≡ true) → a ≡ b
 equal true b f g = sym (f refl)

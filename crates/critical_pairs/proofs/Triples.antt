@@ -2,7 +2,8 @@
 use Rattle.std.proofs.Common.{◌≡◌, ◌⊎◌, ◌↔◌, ◌<◌, ◌≤◌, ◌+◌, ℕ, List, [], ◌++◌, length, slice_get, get_or, Some, Result, Err, refl, sym, ap, ◌∙◌, subst, inl, inr, ⊎_elim, Contains, arith}
 use Rattle.std.specs.declared.cmp.Ordering.TheVariants.{Less}
 use Rattle.std.specs.Ordering.{nat_cmp, ordering_then}
-use Rattle.std.specs.Cmp.{nat_cmp_is}
+use Rattle.std.specs.Cmp.{IsTotalOrder, nat_cmp_is}
+use Rattle.std.proofs.lemmas.Cmp.{nat_cmp_total, nat_list_cmp_total, then_total, on_total}
 use Rattle.std.specs.Cmp.Lexicographic.{slice_cmp}
 use Rattle.std.specs.List.Sorted.{IsStrictlySortedBy}
 use Rattle.std.proofs.Math.Nat.{eq-or-lt_of_le}
@@ -10,18 +11,17 @@ use Rattle.std.proofs.lemmas.List.Elements.{Contains-append_cases}
 use Rattle.std.proofs.lemmas.Option.{slice_get_within, slice_get_read}
 use Rattle.std.specs.Result.{IsErrAnd, IsErrOf}
 use Rattle.std.proofs.lemmas.Result.{err_from_is_err_and}
-use Rattle.ranked_terms.specs.Listings.{IsListing, HasMoreThan}
-use Rattle.ranked_terms.proofs.Listings.{distinct_if_ascends}
+use Rattle.list_laws.specs.Listings.{IsListing, HasMoreThan}
+use Rattle.list_laws.proofs.Listings.{distinct_if_ascends}
 use Rattle.trs_rules.specs.Rules.{RewriteRule}
 use Rattle.trs_rules.specs.declared.sigma.Pair.{Pair}
 use Rattle.ta_core.specs.TreeAutomaton.{TreeAutomaton, IsSound}
 use Rattle.ta_core.specs.Runs.{Runs}
 use Rattle.ta_core.specs.Closure.{IsOpenTriple, AreOpenPairs, assigned_by}
-use Rattle.ta_core.specs.ClosureLaws.{pair_order}
-use Rattle.ta_core.proofs.OpenLists.{pair_order_total, open_pairs_are_listing, open_pairs_are_listed, more_open_are_longer}
-use Rattle.ta_core.proofs.Ascending.{ascends-append}
-use Rattle.ta_core.proofs.Places.{nothing_ascends}
-use Rattle.ta_core.proofs.RunsLaws.{run_ends}
+use Rattle.ta_core.specs.ClosureLaws.{pair_order, OpenPairsAreListed, OpenPairsAreListing, MoreOpenAreLonger}
+use Rattle.list_laws.proofs.Ascending.{ascends-append}
+use Rattle.list_laws.proofs.Places.{nothing_ascends}
+use Rattle.ta_core.specs.lemmas.RunsLaws.{run_ends}
 use Rattle.critical_pairs.specs.Opens.{Setting, IsOpenOf, AddsAll, ExceedsWith}
 use Rattle.critical_pairs.proofs.Joined.{listing_none, listing_by, listing_append}
 
@@ -31,6 +31,9 @@ rule_at R i rule l e = slice_get_read R (length R) i rule refl l e
 -- the error that was passed on
 pub same_error : {T U E : Type 0} (r : Result T E) (e x : E) → r ≡ Err e → IsErrAnd r (λ y. y ≡ x) → IsErrOf {T = U} {E = E} (Err x) e
 same_error r e x is passed = let h = err_from_is_err_and r passed in let a = h.1 in let b = h.2 in cc
+
+pair_order_total : IsTotalOrder pair_order
+pair_order_total = then_total (on_total (λ (x : Pair). x.rule) nat_cmp_total) (then_total (on_total (λ (x : Pair). x.sigma) nat_list_cmp_total) (on_total (λ (x : Pair). x.state) nat_cmp_total))
 
 abbrev pub setting_of : TreeAutomaton → ℕ → RewriteRule → Setting
 setting_of A i rule = record { automaton = A; number = i; rule = rule }
@@ -95,18 +98,18 @@ module _ (A : TreeAutomaton) (R : List RewriteRule) (i : ℕ) (rule : RewriteRul
   }
 
   -- with this rule there are more than the limit, so the list is longer
-  pub too_many : IsSound A → (limit : ℕ) (pairs : List Pair) → AreOpenBefore A R limit i pairs → ExceedsWith (setting_of A i rule) limit pairs → (all : List Pair) × AreOpenPairs A R all × (limit < length all)
-  too_many sound limit pairs b x =
+  pub too_many : OpenPairsAreListed → MoreOpenAreLonger → IsSound A → (limit : ℕ) (pairs : List Pair) → AreOpenBefore A R limit i pairs → ExceedsWith (setting_of A i rule) limit pairs → (all : List Pair) × AreOpenPairs A R all × (limit < length all)
+  too_many listed longer sound limit pairs b x =
       let some = pairs ++ x.opens in
       let ascend : IsStrictlySortedBy pair_order some = ascends-append pair_order pairs x.opens b.are.ascends x.ascend (λ y z c d. in_order y z ((b.are.exact y).0 c) (x.each z d)) in
       let each : (y : Pair) → Contains some y → IsOpenTriple A R y = λ y c. ⊎_elim (λ l. ((b.are.exact y).0 l).is) (λ r. triple sound y (x.each y r)) (Contains-append_cases pairs x.opens y c) in
       let many : HasMoreThan limit (IsOpenTriple A R) = record { some = some; distinct = distinct_if_ascends pair_order_total some ascend; each = each; more = x.more } in
-      let all = open_pairs_are_listed A R in
-      (all.0, all.1, more_open_are_longer A R limit all.0 many all.1)
+      let all = listed A R in
+      (all.0, all.1, longer A R limit all.0 many all.1)
 
 -- all rules
-pub all_rules : (A : TreeAutomaton) (R : List RewriteRule) (limit i : ℕ) (pairs : List Pair) → IsStrictlySortedBy nat_cmp A.states → length R ≤ i → AreOpenBefore A R limit i pairs → AreOpenPairs A R pairs
-all_rules A R limit i pairs s end b = (open_pairs_are_listing A R pairs s).1 (listing_by (λ x. (
+pub all_rules : OpenPairsAreListing → (A : TreeAutomaton) (R : List RewriteRule) (limit i : ℕ) (pairs : List Pair) → IsStrictlySortedBy nat_cmp A.states → length R ≤ i → AreOpenBefore A R limit i pairs → AreOpenPairs A R pairs
+all_rules listing A R limit i pairs s end b = (listing A R pairs s).1 (listing_by (λ x. (
   λ o. o.is,
   λ t. record { is = t; early = let l : x.rule < length R = slice_get_within R x.rule t.triple.rule t.triple.is_rule in omega (arith, l, end) },
 )) pairs b.are)

@@ -1,7 +1,7 @@
 -- The open pairs of one rule, and those of an assignment. These serve private contracts alone.
 use Rattle.std.specs.Prelude.{◌≡◌, ◌<◌, ◌≤◌, ℕ, false, List, ◌++◌, length, Contains}
 use Rattle.std.specs.List.Sorted.{IsStrictlySortedBy}
-use Rattle.ranked_terms.specs.Listings.{IsListing}
+use Rattle.list_laws.specs.Listings.{IsListing}
 use Rattle.trs_rules.specs.Rules.{RewriteRule}
 use Rattle.trs_rules.specs.declared.sigma.Pair.{Pair}
 use Rattle.ta_core.specs.TreeAutomaton.{TreeAutomaton}

@@ -1,7 +1,7 @@
 //! Open pairs.
 ghost use Rattle.std.specs.Prelude.{◌≡◌, ◌≤◌, ◌<◌, ◌^◌, ◌++◌, ℕ, List, length, Contains, IfOk, IsErrOf};
 ghost use Rattle.std.specs.List.Sorted.{IsStrictlySortedBy};
-ghost use Rattle.ranked_terms.specs.Listings.{IsListing};
+ghost use Rattle.list_laws.specs.Listings.{IsListing};
 ghost use Rattle.trs_rules.specs.declared.sigma.Pair.{Pair as Triple};
 ghost use Rattle.ta_core.specs.Closure.{AreOpenPairs};
 ghost use Rattle.ta_core.specs.ClosureLaws.{pair_order};

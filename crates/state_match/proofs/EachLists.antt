@@ -8,12 +8,12 @@ use Rattle.std.specs.List.{flat_map}
 use Rattle.std.specs.List.Sorted.{IsStrictlySortedBy}
 use Rattle.std.proofs.lemmas.List.{append_assoc}
 use Rattle.std.proofs.lemmas.List.Elements.{All-contains, All-from_recursion, Contains-append_cases, Contains-append_left, Contains-append_right}
-use Rattle.ta_core.proofs.Keys.{all_from_members}
+use Rattle.list_laws.proofs.Members.{all_from_members}
 use Rattle.state_match.specs.Matches.{match_order}
 use Rattle.state_match.proofs.Members.{none, parts}
 use Rattle.state_match.proofs.MatchLists.{had, has, matches_ascend, are_matches, each_match, beginning, flat_map_last}
 use Rattle.std.proofs.lemmas.List.{take_more, take-append-drop, map-append}
-use Rattle.ranked_terms.specs.Listings.{IsListing, IsFront}
+use Rattle.list_laws.specs.Listings.{IsListing, IsFront}
 use Rattle.state_match.specs.Visits.{GoneThrough}
 use Rattle.state_match.specs.Groups.{Group, group_of, after, AreFirstGroups, TookAll, TookFirst, TookUpTo}
 use Rattle.state_match.specs.Collected.{match_of, matches_of}

@@ -7,7 +7,7 @@ use Rattle.std.specs.List.{flat_map}
 use Rattle.std.specs.List.Sorted.{IsStrictlySortedBy}
 use Rattle.std.proofs.lemmas.Cmp.{nat_cmp_total, tied_itself}
 use Rattle.std.proofs.lemmas.List.Elements.{All-nil, All-cons, All-head, All-tail, All-contains, All-from_recursion, Contains-append_left, Contains-append_right, Contains-append_cases}
-use Rattle.ranked_terms.specs.Listings.{IsListing}
+use Rattle.list_laws.specs.Listings.{IsListing}
 use Rattle.ranked_terms.specs.Terms.{assigned, variables_of}
 use Rattle.ranked_terms.specs.declared.term.Config.{Config}
 use Rattle.ranked_terms.specs.declared.term.Pattern.{Pattern}

@@ -12,7 +12,7 @@ use Rattle.std.specs.Cmp.Lexicographic.{slice_cmp}
 use Rattle.std.specs.List.Sorted.{IsStrictlySortedBy}
 use Rattle.std.proofs.lemmas.Cmp.{nat_cmp_total, nat_list_cmp_total, tied_itself}
 use Rattle.std.proofs.lemmas.List.Elements.{Contains-append_left, Contains-append_right, Contains-append_cases}
-use Rattle.ranked_terms.specs.Listings.{IsFront}
+use Rattle.list_laws.specs.Listings.{IsFront}
 use Rattle.state_match.specs.Visits.{GoneThrough}
 use Rattle.state_match.specs.Groups.{Group, group_of, group_order, after, IsGroup, AreGroups, AreFirstGroups, TookAll}
 use Rattle.state_match.proofs.Members.{here, parts, none, map_has, map_had, nothing_ascends, one_ascends, ascends_append, ascends_map}

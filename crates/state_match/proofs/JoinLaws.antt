@@ -6,15 +6,16 @@ use Rattle.std.proofs.lemmas.List.Elements.{All-contains}
 use Rattle.ranked_terms.specs.Terms.{assigned}
 use Rattle.ranked_terms.specs.declared.term.Pattern.{Pattern, Var, App as App'}
 use Rattle.ranked_terms.specs.declared.term.Config.{Config, State, App}
-use Rattle.ranked_terms.proofs.TermLaws.{assigned_app, assigned_var}
+use Rattle.ranked_terms.specs.lemmas.TermLaws.{assigned_app, assigned_var}
 use Rattle.ta_core.specs.Closure.{state_in}
 use Rattle.ta_core.specs.TreeAutomaton.{TreeAutomaton, IsSound, IsTransOf, IsEpsOf, bare, trans_of}
-use Rattle.ta_core.specs.Orders.{IsUnion}
+use Rattle.list_laws.specs.Lists.{IsUnion}
 use Rattle.ta_core.specs.Runs.{Runs, RunsAll, Reaches}
 use Rattle.ta_core.specs.Reached.{ReachedFrom, HasTransInto, EntersAndReaches}
-use Rattle.ta_core.proofs.Keys.{all_from_members}
-use Rattle.ta_core.proofs.RunsLaws.{run_of_app, run_of_state, run_of_plain, plain_of_run}
-use Rattle.ta_core.proofs.RunStates.{AreExact, exact_more, runs_of_app, zip_length, entered_and_reached}
+use Rattle.list_laws.proofs.Members.{all_from_members}
+use Rattle.ta_core.specs.lemmas.RunsLaws.{run_of_app, run_of_state, run_of_plain, plain_of_run}
+use Rattle.ta_core.specs.lemmas.RunStates.{AreExact, exact_more, runs_of_app, entered_and_reached}
+use Rattle.list_laws.proofs.Zips.{zip_length}
 use Rattle.state_match.specs.Rows.{FitsFrom, IsNextAt, IsClosedBack, IsReverse, turn, RunsFor}
 use Rattle.state_match.proofs.Members.{here, there, map_has, map_had}
 

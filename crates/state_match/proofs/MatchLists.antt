@@ -9,9 +9,9 @@ use Rattle.std.specs.List.Sorted.{IsStrictlySortedBy}
 use Rattle.std.proofs.lemmas.Cmp.{nat_list_cmp_total, tied_itself}
 use Rattle.std.proofs.lemmas.List.{length-append, take-append-drop, drop_more, map-append}
 use Rattle.std.proofs.lemmas.List.Elements.{All-contains, All-from_recursion, recursion_from_All, Contains-get_or, Contains-append_cases, Contains-append_left, Contains-append_right}
-use Rattle.ranked_terms.specs.Listings.{IsListing, HasMoreThan}
+use Rattle.list_laws.specs.Listings.{IsListing, HasMoreThan}
 use Rattle.state_match.specs.Visits.{GoneThrough}
-use Rattle.ranked_terms.proofs.Listings.{distinct_if_ascends}
+use Rattle.list_laws.proofs.Listings.{distinct_if_ascends}
 use Rattle.state_match.specs.Matches.{match_order}
 use Rattle.state_match.specs.Groups.{Group, group_of, after, group_order, AreGroups, AreFirstGroups, TookAll, TookUpTo}
 use Rattle.state_match.specs.Collected.{match_of, matches_of, Adds, Fills}

@@ -1,7 +1,7 @@
 -- The order of matches is total, so there is one list of them at most.
 use Rattle.std.specs.Cmp.{IsTotalOrder}
 use Rattle.std.proofs.lemmas.Cmp.{nat_cmp_total, nat_list_cmp_total, then_total, on_total}
-use Rattle.ranked_terms.proofs.Listings.{listing_one, listing_front, longer_if_more}
+use Rattle.list_laws.proofs.Listings.{listing_one, listing_front, longer_if_more}
 use Rattle.state_match.specs.Matches.{match_order}
 use Rattle.state_match.specs.Laws.{MatchesAreOne, FirstMatchesAreFirst, MoreMatchesAreLonger}
 use Rattle.state_match.specs.declared.lists.Match.{Match}

@@ -5,7 +5,7 @@ use Rattle.std.specs.declared.cmp.Ordering.TheVariants.{Less}
 use Rattle.std.specs.Ordering.{nat_cmp}
 use Rattle.std.specs.Cmp.Lexicographic.{slice_cmp}
 use Rattle.std.specs.List.Sorted.{IsStrictlySortedBy}
-use Rattle.ranked_terms.specs.Listings.{IsListing}
+use Rattle.list_laws.specs.Listings.{IsListing}
 use Rattle.state_match.specs.Visits.{GoneThrough}
 
 -- an assignment and states

@@ -9,7 +9,7 @@ use Rattle.ranked_terms.specs.declared.term.Config.{Config}
 use Rattle.ta_core.specs.TreeAutomaton.{TreeAutomaton}
 use Rattle.ta_core.specs.Runs.{Runs, RunsPlain}
 use Rattle.ta_core.specs.Closure.{state_in}
-use Rattle.ranked_terms.specs.Listings.{IsListing, IsFront}
+use Rattle.list_laws.specs.Listings.{IsListing, IsFront}
 use Rattle.state_match.specs.declared.lists.Match.{Match}
 
 -- plain runs or all runs

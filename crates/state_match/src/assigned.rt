@@ -4,11 +4,10 @@ ghost use Rattle.ranked_terms.specs.Terms.{assigned};
 ghost use Rattle.ta_core.specs.Closure.{state_in};
 ghost use Rattle.ta_core.specs.Runs.{Runs};
 
-use crate::assign::assign;
 use crate::join::value;
 use ranked_terms::Pattern;
 use std::alloc::{AllocError, Global};
-use ta_core::{Automaton, StateSet};
+use ta_core::{Automaton, StateSet, assign};
 
 /// The states to which the pattern runs with these states for its variables, both in the same order. A variable that is none of
 /// `vars` stands for the state 0. `all` has all states of the automaton. The only error is running out of memory.

@@ -1,6 +1,6 @@
 //! Lists of matches up to a limit.
 ghost use Rattle.std.specs.Prelude.{◌≤◌, length, IfOk, IsErrOf};
-ghost use Rattle.ranked_terms.specs.Listings.{IsListing, HasMoreThan};
+ghost use Rattle.list_laws.specs.Listings.{IsListing, HasMoreThan};
 ghost use Rattle.state_match.specs.Matches.{MatchesAt, match_order};
 ghost use Rattle.state_match.specs.declared.lists.Match.{Match as Found};
 

@@ -6,7 +6,7 @@ ghost use Rattle.ta_core.specs.Runs.{Runs};
 ghost use Rattle.ta_core.specs.Reached.{EntersAndReaches};
 ghost use Rattle.state_match.specs.Rows.{IsClosedBack, IsReverse};
 
-use crate::assign::place_of;
+use crate::places::place_of;
 use crate::rows::next_states;
 use ranked_terms::Pattern;
 use std::alloc::{AllocError, Global};

@@ -1,7 +1,7 @@
 //! Matches.
 ghost use Rattle.std.specs.Prelude.{◌≡◌, ◌≤◌, ℕ, List, length, true, false, IfOk, OnOk, OnErr, IsErrOf};
 ghost use Rattle.ranked_terms.specs.Terms.{variables_of};
-ghost use Rattle.ranked_terms.specs.Listings.{HasMoreThan};
+ghost use Rattle.list_laws.specs.Listings.{HasMoreThan};
 ghost use Rattle.state_match.specs.Visits.{GoneThrough};
 ghost use Rattle.state_match.specs.Matches.{IsMatch, AreMatches, AreFirstMatches};
 ghost use Rattle.state_match.specs.declared.lists.Match.{Match as Found};

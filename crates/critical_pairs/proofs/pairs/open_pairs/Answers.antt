@@ -11,7 +11,7 @@ returns-in_err-pairs-clause-more c = λ more.
     let R = c.args.rules.now in
     let same = same_error c.from_residual-in_err-pairs.result More c.in_err-pairs.field-0.0 more c.from_residual-in_err-pairs.ensures.1 in
     too_many A R c.loop-number.number c.index-rules-number.result (rule_at R c.loop-number.number c.index-rules-number.result c.loop-number-test.true c.index-rules-number.is)
-    c.states.ensures.sound c.args.limit c.loop-number.pairs c.loop-number.invariant (c.in_err-pairs.ensures.more same)
+    c.open_pairs_are_listed.ensures.listed c.open_pairs_are_listed.ensures.longer c.states.ensures.sound c.args.limit c.loop-number.pairs c.loop-number.invariant (c.in_err-pairs.ensures.more same)
 
 pub loop-number-preserved : goal.loop-number-preserved
 loop-number-preserved c =
@@ -20,4 +20,4 @@ loop-number-preserved c =
     c.states.ensures.sound c.args.limit c.loop-number.pairs c.in_ok-pairs.pairs c.loop-number.invariant c.in_ok-pairs.ensures.all
 
 pub returns-clause-all : goal.returns-clause-all
-returns-clause-all c = all_rules c.args.automaton.now c.args.rules.now c.args.limit c.loop-number.number c.loop-number.pairs c.states.ensures.sorted c.loop-number-test.false c.loop-number.invariant
+returns-clause-all c = all_rules c.open_pairs_are_listed.ensures.listing c.args.automaton.now c.args.rules.now c.args.limit c.loop-number.number c.loop-number.pairs c.states.ensures.sorted c.loop-number-test.false c.loop-number.invariant

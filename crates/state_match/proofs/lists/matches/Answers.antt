@@ -1,5 +1,5 @@
 use Rattle.std.proofs.Common.{ℕ, List, false, IfOk, IsErrOf, ◌∙◌, subst}
-use Rattle.ranked_terms.specs.Listings.{IsListing, HasMoreThan}
+use Rattle.list_laws.specs.Listings.{IsListing, HasMoreThan}
 use Rattle.state_match.specs.Matches.{MatchesAt, match_order}
 use Rattle.state_match.specs.declared.lists.Match.{Match}
 use Rattle.state_match.specs.declared.lists.MatchError.TheVariants.{More}

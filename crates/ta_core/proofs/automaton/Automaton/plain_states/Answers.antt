@@ -2,8 +2,8 @@ use Rattle.std.proofs.Common.{ℕ, ◌↔◌, ◌∙◌, sym, subst}
 use Rattle.std.specs.List.{Contains}
 use Rattle.ta_core.specs.TreeAutomaton.{TreeAutomaton}
 use Rattle.ta_core.specs.Runs.{Runs, RunsPlain}
-use Rattle.ta_core.proofs.RunStates.{exact_by}
-use Rattle.ta_core.proofs.RunsLaws.{run_of_plain, plain_of_run}
+use Rattle.ta_core.specs.lemmas.RunStates.{exact_by}
+use Rattle.ta_core.specs.lemmas.RunsLaws.{run_of_plain, plain_of_run}
 use Rattle.ta_core.proofs.automaton.Automaton.plain_states.Goals as goal
 
 pub returns : goal.returns

@@ -1,4 +1,4 @@
-use Rattle.ta_core.proofs.Keys.{sound_without}
+use Rattle.ta_core.proofs.Soundness.{sound_without}
 use Rattle.ta_core.proofs.automaton.Automaton.without_eps.Goals as goal
 
 pub invariant_of-result : goal.invariant_of-result
