@@ -1,0 +1,4 @@
+pub mod Joined
+pub mod Outside
+pub mod Opens
+pub mod Triples

@@ -1,0 +1,7 @@
+pub mod Visits
+pub mod Matches
+pub mod Groups
+pub mod Rests
+pub mod Collected
+pub mod Rows
+pub mod Laws

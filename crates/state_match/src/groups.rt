@@ -1,0 +1,64 @@
+//! Matches by assignment.
+ghost use Rattle.std.specs.Prelude.{◌⊎◌, ◌≤◌, [], length, IsTrue, not, IfOk, OnErr};
+ghost use Rattle.state_match.specs.Matches.{MatchesAt};
+ghost use Rattle.state_match.specs.Groups.{group_of, TookAll, TookFirst, TookUpTo};
+
+use crate::bound::Bound;
+use crate::plain::{reversed, runs_for};
+use crate::walk::walk;
+use ranked_terms::Pattern;
+use std::alloc::{AllocError, Global};
+use ta_core::{Automaton, StateSet};
+
+/// Takes assignments one by one, each with all its states at once.
+pub trait Groups {
+    ghost use Rattle.std.specs.Prelude.{◌≤◌, length};
+    ghost use Rattle.std.specs.Ordering.{nat_cmp};
+    ghost use Rattle.std.specs.List.Sorted.{IsStrictlySortedBy};
+    ghost use Rattle.state_match.specs.Groups.{Group};
+
+    /// What taking an assignment does, where the visitor goes on.
+    ghost took: { Self → Group → Self → Type 0 };
+
+    /// What taking an assignment does, where the visitor has enough.
+    ghost ended: { Self → Group → Self → Type 0 };
+
+    /// What taking an assignment does, where memory runs out.
+    ghost broke: { Self → Group → Self → Type 0 };
+
+    /// Takes an assignment of at most 16 states with all the states to which the pattern runs by it, in ascending order, and
+    /// says whether to go on. The only error is running out of memory.
+    fn take(&mut self, assignment: &[u32], states: &[u32]) -> Result<bool, AllocError>
+        requires short { length assignment.now ≤ 16 }
+        requires ascend { IsStrictlySortedBy nat_cmp states.now }
+        ensures took { IfOk result (λ on. IsTrue on → took self.old (group_of assignment.now states.now) self.new) }
+        ensures ended { IfOk result (λ on. IsTrue (not on) → ended self.old (group_of assignment.now states.now) self.new) }
+        ensures broke { OnErr result (broke self.old (group_of assignment.now states.now) self.new) };
+}
+
+/// Hands the assignments with which a pattern runs to some state to the visitor, in order, each with all these states, and
+/// says whether the visitor took them all. The assignments are lists of the states of `vars`, of which there are at most 16,
+/// and which may have more variables than the pattern. When memory runs out, which is the only error, the visitor has taken the first of them.
+pub fn each_group<V: Groups>(
+    alloc: Global,
+    automaton: &Automaton,
+    pattern: &Pattern,
+    vars: &[u32],
+    plain: bool,
+    visitor: &mut V,
+) -> Result<bool, AllocError>
+    requires { length vars.now ≤ 16 }
+    ensures whole { IfOk result (λ on. IsTrue on → TookAll V.took (MatchesAt plain automaton.now vars.now pattern.now) [] visitor.old visitor.new) }
+    ensures ended { IfOk result (λ on. IsTrue (not on) → TookUpTo V.took V.ended (MatchesAt plain automaton.now vars.now pattern.now) [] visitor.old visitor.new) }
+    ensures err { OnErr result (TookFirst V.took (MatchesAt plain automaton.now vars.now pattern.now) [] visitor.old visitor.new
+        ⊎ TookUpTo V.took V.broke (MatchesAt plain automaton.now vars.now pattern.now) [] visitor.old visitor.new) }
+{
+    let runs = runs_for(automaton, plain)?;
+    let reversed = reversed(alloc, &runs)?;
+    let all = StateSet::from_slice(alloc, runs.states())?;
+    let start = Bound::new(
+        alloc, plain, automaton, &runs, &reversed, &all, pattern, vars,
+    );
+    let mut assignment = Vec::new(alloc);
+    walk(&start, vars.len(), &mut assignment, visitor)
+}
