@@ -2,10 +2,9 @@
 use Rattle.std.proofs.Common.{◌≡◌, ℕ, ◌+◌, ◌<◌, List, [], ◌∷◌, ◌++◌, sym, subst, arith}
 use Rattle.std.specs.List.{Contains}
 use Rattle.std.proofs.lemmas.List.Elements.{All-weaker, All-push, Contains-append_left}
-use Rattle.list_laws.proofs.Members.{all_from_members}
+use Rattle.list_laws.proofs.Members.{all_from_members, none}
 use Rattle.ta_core.specs.TreeAutomaton.{TreeAutomaton, IsSound, IsTransOf, IsEpsOf}
 use Rattle.ta_core.specs.declared.trans.Trans.{Trans}
-use Rattle.list_laws.proofs.Members.{none}
 
 -- one more state
 pub sound_more : (A : TreeAutomaton) → IsSound A → IsSound (record A { states = A.states ++ A.next ∷ []; next = A.next + 1 })
