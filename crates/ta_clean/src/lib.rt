@@ -1,0 +1,12 @@
+//! Which states of a tree automaton some ground term runs to, whether it accepts one, and the pairs of states of two automata
+//! to which one ground term runs (TATA, sections 1.1 and 1.3).
+#![tactic(auto)]
+
+mod emptiness;
+mod final_pairs;
+pub mod laws;
+mod meeting;
+
+pub use emptiness::{is_empty, productive};
+pub use final_pairs::least_meeting;
+pub use meeting::Meetings;
