@@ -6,3 +6,6 @@ pub mod ArgumentPlaces
 pub mod CommonTerms
 pub mod LeastMembers
 pub mod AllTerms
+pub mod Sizing
+pub mod Building
+pub mod Lowering

@@ -15,14 +15,14 @@ use Rattle.ta_clean.specs.declared.meeting.grid.Mark.TheVariants.{Unmarked, Wait
 lower_row : (w p q r s : ℕ) → q < w → p < r → p * w + q < r * w + s
 lower_row w p q r s l below = omega (arith, mul-le-mul_right w below, l)
 
-same_place : (w p q r s : ℕ) → q < w → s < w → p * w + q ≡ r * w + s → (p ≡ r) × (q ≡ s)
+pub same_place : (w p q r s : ℕ) → q < w → s < w → p * w + q ≡ r * w + s → (p ≡ r) × (q ≡ s)
 same_place w p q r s l k e =
     let low : p ≡ r = ⊎_elim (λ below. absurd (omega (arith, lower_row w p q r s l below, e)))
     (λ above. ⊎_elim (λ below. absurd (omega (arith, lower_row w r s p q k below, e))) (λ no. omega (arith, above, no)) (cases_lt r p))
     (cases_lt p r) in
     (low, omega (arith, e, ap (λ x. x * w) low))
 
-pair_same : (x y : ℕ × ℕ) → x.0 ≡ y.0 → x.1 ≡ y.1 → x ≡ y
+pub pair_same : (x y : ℕ × ℕ) → x.0 ≡ y.0 → x.1 ≡ y.1 → x ≡ y
 pair_same x y e f = λ i. (e i, f i)
 
 nat_cases : (m n : ℕ) → (m ≡ n) ⊎ (m ≡ n → ⊥)

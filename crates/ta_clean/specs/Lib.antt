@@ -5,4 +5,6 @@ pub mod Uses
 pub mod Slots
 pub mod Products
 pub mod Walking
+pub mod Least
+pub mod Sizes
 pub mod Laws
