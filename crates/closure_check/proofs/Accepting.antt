@@ -11,11 +11,12 @@ use Rattle.ta_core.specs.SpecRules.{automaton_is_over}
 use Rattle.ta_core.specs.Closure.{Closed, IsClosedUnder, triples_from, IsFirstOpen}
 use Rattle.ta_core.specs.Acceptance.{Misses, IsContained, TransHolds, EpsHolds, FinalHolds}
 use Rattle.ta_core.specs.declared.trans.Trans.{Trans}
-use Rattle.ta_core.proofs.Members.{here}
-use Rattle.ta_core.proofs.Acceptance.{accepted_terms_are_over}
-use Rattle.ta_core.proofs.Closure.{at_place, closed_at_list}
-use Rattle.ta_core.proofs.OpenPairs.{triples_are_all}
-use Rattle.ranked_terms.specs.Listings.{IsFirst}
+use Rattle.list_laws.proofs.Members.{here}
+use Rattle.ta_core.specs.AcceptanceLaws.{AcceptedTermsAreOver}
+use Rattle.list_laws.proofs.Members.{at_place}
+use Rattle.ta_core.specs.lemmas.Assignments.{closed_at_list}
+use Rattle.ta_core.specs.ClosureLaws.{TriplesAreAll}
+use Rattle.list_laws.specs.Listings.{IsFirst}
 use Rattle.ta_clean.specs.Meeting.{FinalsMeet, IsLeastMeeting}
 use Rattle.closure_check.specs.Answers.{IsFirstMissing, FailsFirst}
 use Rattle.closure_check.specs.declared.answer.Missing.{Missing}
@@ -29,20 +30,20 @@ none_missing A₀ A h (missing.Transition k) at c = at.1.is (All-contains (Trans
 none_missing A₀ A h (missing.Epsilon k) (_, at) c = at.1.is (All-contains (EpsHolds A h) A₀.eps at.0 c.eps (first_member A₀.eps at.0 at.1))
 none_missing A₀ A h (missing.Final q) (_, _, first) c = first.is (All-contains (FinalHolds A h) A₀.finals q c.finals (first_member A₀.finals q first))
 
-pub none_open : (A : TreeAutomaton) (R : List RewriteRule) (pair : Pair) → IsFirstOpen A R pair → Closed A R → ⊥
-none_open A R pair first closed =
-    let t = (triples_are_all A R pair).0 (first_member (triples_from A 0 R) pair first) in
+pub none_open : TriplesAreAll → (A : TreeAutomaton) (R : List RewriteRule) (pair : Pair) → IsFirstOpen A R pair → Closed A R → ⊥
+none_open law A R pair first closed =
+    let t = (law A R pair).0 (first_member (triples_from A 0 R) pair first) in
     let o = first.is in
     let same : t.rule ≡ o.rule = let e = sym t.is_rule ∙ o.is_rule in cc in
     let long : length pair.sigma ≡ length o.rule.vars = t.each_variable ∙ ap (λ r. length r.vars) same in
     o.right (closed_at_list A o.rule (at_place (IsClosedUnder A) R pair.rule o.rule closed o.is_rule) pair.sigma long t.are_states pair.state o.left)
 
-pub none_meet : (signature : List Symbol) (A B : TreeAutomaton) (p q : ℕ) → IsTrue (automaton_is_over signature B) → IsLeastMeeting A B p q → Misses signature A B → ⊥
-none_meet signature A B p q over least misses =
+pub none_meet : AcceptedTermsAreOver → (signature : List Symbol) (A B : TreeAutomaton) (p q : ℕ) → IsTrue (automaton_is_over signature B) → IsLeastMeeting A B p q → Misses signature A B → ⊥
+none_meet law signature A B p q over least misses =
     let m = least.meet in
     let first : Accepts A m.meets.term = record { state = p; runs = m.meets.first; final = m.first } in
     let second : Accepts B m.meets.term = record { state = q; runs = m.meets.second; final = m.second } in
-    let is_over = accepted_terms_are_over signature B over m.meets.term second in
+    let is_over = law signature B over m.meets.term second in
     misses m.meets.term (record { over = is_over; accepted = first }) (record { over = is_over; accepted = second })
 
 -- no ground term is accepted by both where no two final states meet

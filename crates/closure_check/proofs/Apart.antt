@@ -8,7 +8,7 @@ use Rattle.trs_rules.specs.Rules.{RewriteRule}
 use Rattle.ta_core.specs.TreeAutomaton.{TreeAutomaton}
 use Rattle.ta_core.specs.Runs.{Runs}
 use Rattle.ta_core.specs.Closure.{state_in}
-use Rattle.ranked_terms.specs.Listings.{IsFirst}
+use Rattle.list_laws.specs.Listings.{IsFirst}
 use Rattle.closure_check.specs.Searching.{IsApart, IsShared, Opens, Settles, OpensFirst, with_states}
 use Rattle.closure_check.proofs.FirstMembers.{first_mapped}
 use Rattle.closure_check.proofs.Walks.{Ends}

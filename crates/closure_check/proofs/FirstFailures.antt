@@ -6,8 +6,8 @@ use Rattle.ranked_terms.specs.declared.term.Config.{Config, State}
 use Rattle.ta_core.specs.TreeAutomaton.{TreeAutomaton, IsSound, trans_of}
 use Rattle.ta_core.specs.Runs.{Runs}
 use Rattle.ta_core.specs.Acceptance.{image, IsContained, TransHolds, EpsHolds, FinalHolds}
-use Rattle.ta_core.proofs.RunStates.{AreExact, exact_more}
-use Rattle.ranked_terms.specs.Listings.{IsFirst}
+use Rattle.ta_core.specs.lemmas.RunStates.{AreExact, exact_more}
+use Rattle.list_laws.specs.Listings.{IsFirst}
 use Rattle.closure_check.specs.Marking.{Marked}
 use Rattle.std.proofs.lemmas.List.{get_or_default}
 use Rattle.closure_check.specs.Answers.{FailsFirst, FailsFirstAt}

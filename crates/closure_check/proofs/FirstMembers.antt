@@ -2,8 +2,8 @@
 use Rattle.std.proofs.Common.{◌≡◌, ℕ, List, [], ◌∷◌, ◌++◌, map, All, Contains, refl, sym, ap, subst, ◌∙◌, append_assoc}
 use Rattle.std.proofs.lemmas.List.{map-append}
 use Rattle.std.proofs.lemmas.List.Elements.{All-append, All-map, All-weaker, All-contains, Contains-append_right}
-use Rattle.ta_core.proofs.Members.{here}
-use Rattle.ranked_terms.specs.Listings.{IsFirst}
+use Rattle.list_laws.proofs.Members.{here}
+use Rattle.list_laws.specs.Listings.{IsFirst}
 
 module _ {X : Type 0} {Is Not : X → Type 0} where
   -- behind elements that are none

@@ -9,9 +9,10 @@ use Rattle.trs_rules.specs.declared.sigma.Pair.{Pair}
 use Rattle.ta_core.specs.TreeAutomaton.{TreeAutomaton, IsSound}
 use Rattle.ta_core.specs.Runs.{Runs}
 use Rattle.ta_core.specs.Closure.{Closed, IsOpen, IsSettled, OpenAmong, AreOpenPairs, assigned_by, assignments, triples_of_rule, triples_from, IsFirstOpen}
-use Rattle.ta_core.proofs.OpenPairs.{closed_has_no_open_pair, pair_of}
+use Rattle.ta_core.specs.ClosureLaws.{ClosedHasNoOpenPair}
+use Rattle.ta_core.specs.Closure.{pair_of}
 use Rattle.closure_check.specs.Searching.{Opens, Settles, OpensFirst, with_states, going_on}
-use Rattle.ranked_terms.specs.Listings.{IsFirst}
+use Rattle.list_laws.specs.Listings.{IsFirst}
 use Rattle.closure_check.proofs.Lists.{map-flat_map, map-map', flat_map-same}
 use Rattle.closure_check.proofs.FirstMembers.{first_amid, first_mapped}
 
@@ -82,5 +83,5 @@ none_open : (A : TreeAutomaton) (R : List RewriteRule) (pairs : List Pair) → A
 none_open A R [] all = OpenAmong.none
 none_open A R (pair ∷ pairs) all = OpenAmong.settled_one (All-head (IsSettled A R) pair pairs all) (none_open A R pairs (All-tail (IsSettled A R) pair pairs all))
 
-pub closed_if_settled : (A : TreeAutomaton) (R : List RewriteRule) → IsSound A → All IsRule R → All (IsSettled A R) (triples_from A 0 R) → Closed A R
-closed_if_settled A R sound rules all = (closed_has_no_open_pair A R sound rules).1 (none_open A R (triples_from A 0 R) all)
+pub closed_if_settled : ClosedHasNoOpenPair → (A : TreeAutomaton) (R : List RewriteRule) → IsSound A → All IsRule R → All (IsSettled A R) (triples_from A 0 R) → Closed A R
+closed_if_settled law A R sound rules all = (law A R sound rules).1 (none_open A R (triples_from A 0 R) all)

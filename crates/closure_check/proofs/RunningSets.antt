@@ -9,14 +9,14 @@ use borrow.Rule.Slice.PartMut.{put_mid, mid_of, post_of, put_same}
 use Rattle.std.proofs.lemmas.List.Sums.{prefix_len-le-length}
 use Rattle.ranked_terms.specs.declared.term.Pattern.{Pattern}
 use Rattle.ranked_terms.specs.declared.term.Pattern.TheVariants.{Var, App, rolls-Var, rolls-App}
-use Rattle.ranked_terms.proofs.TermLaws.{pattern_induction, assigned_app}
+use Rattle.ranked_terms.specs.lemmas.TermLaws.{pattern_induction, assigned_app}
 use Rattle.ranked_terms.specs.Terms.{assigned}
 use Rattle.ranked_terms.specs.declared.term.Config.{Config}
 use Rattle.ranked_terms.specs.declared.term.Config.TheVariants as config
 use Rattle.ta_core.specs.TreeAutomaton.{TreeAutomaton}
 use Rattle.ta_core.specs.Runs.{Runs}
 use Rattle.ta_core.specs.Reached.{EntersAndReaches}
-use Rattle.ta_core.proofs.RunStates.{AreExact, exact_more, runs_of_app}
+use Rattle.ta_core.specs.lemmas.RunStates.{AreExact, exact_more, runs_of_app}
 use Rattle.closure_check.specs.Marking.{Marked, HasRoom}
 use Rattle.ranked_terms.specs.declared.term.Pattern.TheOpen as pattern
 use Rattle.ranked_terms.specs.declared.term.Pattern.TheFolds.{fold-roll-Pattern}

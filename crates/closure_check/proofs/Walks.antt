@@ -7,9 +7,9 @@ use Rattle.std.proofs.lemmas.Bool.{cases_lt}
 use Rattle.std.proofs.lemmas.List.{take_all, take-append-drop, drop_more, get_or-take, get_or_default, length-take-le}
 use Rattle.std.proofs.lemmas.List.Elements.{All-contains, Contains-get_or}
 use Rattle.std.proofs.lemmas.Map.Keys.{below_from_sorted}
-use Rattle.ta_core.proofs.Keys.{all_from_members}
-use Rattle.ta_core.proofs.ReachedSets.{is_member}
-use Rattle.ranked_terms.specs.Listings.{IsFirst}
+use Rattle.list_laws.proofs.Members.{all_from_members}
+use Rattle.list_laws.proofs.Members.{is_member}
+use Rattle.list_laws.specs.Listings.{IsFirst}
 
 -- the list up to an element, which are all settled
 pub record Ends (S : ℕ → Type 0) (xs : List ℕ) (q : ℕ) : Type 0 where

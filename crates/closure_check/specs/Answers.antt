@@ -1,7 +1,7 @@
 -- Which answer the check of a specification, an automaton and a map gives: yes where the automaton is accepted, and else the first of the three parts
 -- that fails, with its first member (Feuillade, Genet and Viet Triem Tong, JAR 2004; the order of the parts is this project's own).
 use Rattle.std.specs.Prelude.{◌≡◌, ℕ, List, length, All}
-use Rattle.ranked_terms.specs.Listings.{IsFirst}
+use Rattle.list_laws.specs.Listings.{IsFirst}
 use Rattle.ta_core.specs.TreeAutomaton.{TreeAutomaton}
 use Rattle.ta_core.specs.Closure.{Closed, IsFirstOpen}
 use Rattle.ta_core.specs.Acceptance.{TransHolds, EpsHolds, FinalHolds, IsContained, IsAccepted}

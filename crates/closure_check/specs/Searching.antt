@@ -7,7 +7,7 @@ use Rattle.ta_core.specs.Runs.{Runs}
 use Rattle.ta_core.specs.Closure.{assigned_by, assignments, state_in}
 use Rattle.ranked_terms.specs.Terms.{assigned}
 use Rattle.ranked_terms.specs.declared.term.Pattern.{Pattern}
-use Rattle.ranked_terms.specs.Listings.{IsFirst}
+use Rattle.list_laws.specs.Listings.{IsFirst}
 
 -- the left side runs to the state, and the right side doesn't
 pub record Opens (A : TreeAutomaton) (rule : RewriteRule) (at : List ℕ × ℕ) : Type 0 where

@@ -8,6 +8,7 @@ ghost use Rattle.closure_check.specs.Rooms.{Fits};
 
 use crate::answer::Answer;
 use crate::room::Room;
+use ta_core::laws::{accepted_terms_are_over, closed_automata_have_no_open_pair};
 use ta_core::{Automaton, Map, Spec, accepted_means_safe};
 
 /// Whether the automaton, with the map from the states of the initial one, is accepted: `Yes` exactly where it contains the
@@ -25,8 +26,9 @@ pub fn check(room: &mut Room, spec: &Spec, automaton: &Automaton, map: &Map) -> 
     ensures safe { result ≡ Answer.Yes → (t : Term) → Reachable spec.now t → Forbidden spec.now t → ⊥ }
     ensures kept { room.new ≡ room.old }
 {
-    // Its contract says what holds of every automaton.
-    let _ = automaton.states();
+    // For the proof: the open pairs are among the triples, and what an automaton over the signature accepts is over it.
+    closed_automata_have_no_open_pair();
+    accepted_terms_are_over();
     if let Some(missing) = room.first_missing(&spec.initial, automaton, map) {
         return Answer::NotContained(missing);
     }

@@ -3,11 +3,12 @@
 //! The assignments of a rule are gone over in their order, by a state for one variable after the other; a state with which
 //! the left side can no longer run is passed over with all that would go on from it. So the first open pair that comes up is
 //! the first of all.
-ghost use Rattle.std.specs.Prelude.{◌≡◌, ◌≢◌, ◌↔◌, ◌<◌, ◌≤◌, ◌+◌, ◌^◌, ℕ, List, [], ◌∷◌, ◌++◌, length, map, All, Contains, IsTrue, true, false, IfSome, IfNone};
+ghost use Rattle.std.specs.Prelude.{◌≡◌, ◌≢◌, ◌↔◌, ◌<◌, ◌≤◌, ◌+◌, ◌^◌, ℕ, List, [], ◌∷◌, ◌++◌, length, map};
+ghost use Rattle.std.specs.Prelude.{All, Contains, IsTrue, true, false, IfSome, IfNone};
 ghost use Rattle.arrayvec.specs.ArrayVec.{array_vec_len};
 ghost use Rattle.ta_core.specs.Closure.{Closed, IsFirstOpen};
 ghost use Rattle.closure_check.specs.Rooms.{sets_of, sets_of_sides, sets_of_rules};
-ghost use Rattle.ranked_terms.specs.Listings.{IsFirst};
+ghost use Rattle.list_laws.specs.Listings.{IsFirst};
 ghost use Rattle.closure_check.specs.Marking.{Marked, HasRoom};
 ghost use Rattle.closure_check.specs.Searching.{IsApart, IsShared, OpensFirst, Settles, with_states, going_on};
 
@@ -17,6 +18,7 @@ use crate::running::{has_state, run_pattern};
 use arrayvec::ArrayVec;
 use std::alloc::Global;
 use ta_core::Automaton;
+use ta_core::laws::closed_automata_have_no_open_pair;
 use trs_rules::{Pair, Rule, Sigma};
 
 /// The first open pair of the rules.
@@ -33,6 +35,8 @@ pub(crate) fn first_open(
     ensures none { IfNone result (Closed automaton.now rules.now) }
     ensures sizes { map (λ (set : Marked). set.size) sets.new ≡ map (λ (set : Marked). set.size) sets.old }
 {
+    // For the proof: an automaton without an open pair is closed.
+    closed_automata_have_no_open_pair();
     // Its contract says what holds of every automaton.
     let _ = automaton.states();
     let mut number = 0;
@@ -64,7 +68,8 @@ fn first_open_from(
     requires few { length states.old.items + more ≤ 16 }
     requires enough { more + sets_of_sides rule.now ≤ length sets.old }
     requires room { All (HasRoom automaton.now) sets.old }
-    ensures some { IfSome result (λ state. OpensFirst automaton.now rule.now (going_on automaton.now states.old.items more) (states.new.items, state)) }
+    ensures some { IfSome result
+        (λ state. OpensFirst automaton.now rule.now (going_on automaton.now states.old.items more) (states.new.items, state)) }
     ensures none { IfNone result (All (Settles automaton.now rule.now) (going_on automaton.now states.old.items more)) }
     ensures back { IfNone result (states.new.items ≡ states.old.items) }
     ensures short { length states.new.items ≤ 16 }
@@ -101,7 +106,8 @@ fn first_open_in(
     requires left { sets_of rule.now.left ≤ length sets.old }
     requires right { sets_of rule.now.right + 1 ≤ length sets.old }
     requires room { All (HasRoom automaton.now) sets.old }
-    ensures some { IfSome result (λ state. OpensFirst automaton.now rule.now (with_states automaton.now states.now) (states.now, state)) }
+    ensures some { IfSome result
+        (λ state. OpensFirst automaton.now rule.now (with_states automaton.now states.now) (states.now, state)) }
     ensures none { IfNone result (All (Settles automaton.now rule.now) (with_states automaton.now states.now)) }
     ensures sizes { map (λ (set : Marked). set.size) sets.new ≡ map (λ (set : Marked). set.size) sets.old }
 {

@@ -48,7 +48,7 @@ impl Model for Room {
 }
 
 impl Room {
-    /// All memory that the check of this specification and automaton takes. The only error is want of memory.
+    /// All memory that the check of this specification and automaton takes. The only error is running out of memory.
     pub fn new(alloc: Global, spec: &Spec, automaton: &Automaton) -> Result<Room, AllocError>
         ensures { IfOk result (λ room. Fits room spec.now automaton.now) }
     {

@@ -7,13 +7,14 @@ use Rattle.std.proofs.lemmas.List.{take_more, take_all}
 use Rattle.std.proofs.lemmas.List.Elements.{All-nil, All-cons, Contains-push_cases, Contains-append_left, Contains-push}
 use Rattle.ranked_terms.specs.Terms.{node, config_of}
 use Rattle.ranked_terms.specs.declared.term.Term.{Term}
-use Rattle.ranked_terms.proofs.TermLaws.{config_node, term_induction}
+use Rattle.ranked_terms.specs.lemmas.TermLaws.{config_node, term_induction}
 use Rattle.ta_core.specs.TreeAutomaton.{TreeAutomaton, IsSound, trans_of}
 use Rattle.ta_core.specs.declared.trans.Trans.{Trans}
 use Rattle.ta_core.specs.Runs.{Runs, RunsAll}
 use Rattle.ta_core.specs.Languages.{Accepts}
-use Rattle.ta_core.proofs.RunsLaws.{run_ends, run_of_app, zip_from_all}
-use Rattle.ta_clean.specs.Meeting.{Meets, IsCommon}
+use Rattle.ta_core.specs.lemmas.RunsLaws.{run_ends, run_of_app, zip_from_all}
+use Rattle.ta_core.specs.Meeting.{Meets}
+use Rattle.ta_clean.specs.Meeting.{IsCommon}
 use Rattle.ta_clean.specs.Tables.{Table, IsMarked}
 use Rattle.ta_clean.specs.Productive.{IsProductive, HasAllTerms}
 

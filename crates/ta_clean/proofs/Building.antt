@@ -9,13 +9,14 @@ use Rattle.std.proofs.lemmas.Slice.Zip.{get_or-zip, length-zip}
 use Rattle.ranked_terms.specs.Terms.{node, size_of, config_of}
 use Rattle.ranked_terms.specs.declared.term.Term.{Term}
 use Rattle.ranked_terms.specs.declared.term.Config.{Config}
-use Rattle.ranked_terms.proofs.TermLaws.{config_node, size_node}
+use Rattle.ranked_terms.specs.lemmas.TermLaws.{config_node, size_node}
 use Rattle.ta_core.specs.TreeAutomaton.{TreeAutomaton, IsSound, IsTransOf, trans_of}
 use Rattle.ta_core.specs.declared.trans.Trans.{Trans}
 use Rattle.ta_core.specs.Runs.{Runs, Reaches}
 use Rattle.ta_core.specs.Languages.{Accepts}
-use Rattle.ta_core.proofs.RunsLaws.{reached, all_from_zip, run_ends}
-use Rattle.ta_clean.specs.Meeting.{Meets, IsCommon, FinalsMeet, IsLeastMeeting}
+use Rattle.ta_core.specs.lemmas.RunsLaws.{reached, all_from_zip, run_ends}
+use Rattle.ta_core.specs.Meeting.{Meets}
+use Rattle.ta_clean.specs.Meeting.{IsCommon, FinalsMeet, IsLeastMeeting}
 use Rattle.ta_clean.specs.Least.{Witnesses, IsLarge, IsSmallest}
 use Rattle.ta_clean.specs.Products.{TwoAutomata}
 use Rattle.ta_clean.specs.Sizes.{Sizing, IsPairOf, HasSizes, IsMadeBy, IsTermOf, IsLeastFinal, AreSettled, made_at, size_at, sum_at}

@@ -7,13 +7,13 @@ use Rattle.std.proofs.lemmas.Option.{slice_get-get_or}
 use Rattle.std.proofs.lemmas.Slice.Zip.{get_or-zip, length-zip}
 use Rattle.ranked_terms.specs.Terms.{node, config_of}
 use Rattle.ranked_terms.specs.declared.term.Term.{Term}
-use Rattle.ranked_terms.proofs.TermLaws.{config_node, term_induction}
+use Rattle.ranked_terms.specs.lemmas.TermLaws.{config_node, term_induction}
 use Rattle.ta_core.specs.TreeAutomaton.{TreeAutomaton, IsSound, IsTransOf, IsEpsOf, trans_of}
 use Rattle.ta_core.specs.declared.trans.Trans.{Trans}
 use Rattle.ta_core.specs.Runs.{Runs, RunsAll, Reaches}
-use Rattle.ta_core.proofs.Members.{here, there}
-use Rattle.ta_core.proofs.RunsLaws.{run_of_app, zip_from_all}
-use Rattle.ta_clean.specs.Meeting.{Meets}
+use Rattle.list_laws.proofs.Members.{here, there}
+use Rattle.ta_core.specs.lemmas.RunsLaws.{run_of_app, zip_from_all}
+use Rattle.ta_core.specs.Meeting.{Meets}
 use Rattle.ta_clean.specs.Tables.{Table, IsIn, IsMarked, IsTaken, Keeps, TakesOne}
 use Rattle.ta_clean.specs.Products.{TwoAutomata, HasTable, AllMeet, AreAll, StepsTo, Enters, EntersBy, EntersAt}
 use Rattle.ta_clean.specs.Uses.{IsUseOf, AreUsesOf}

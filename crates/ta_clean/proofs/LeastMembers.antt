@@ -10,7 +10,8 @@ use Rattle.std.proofs.lemmas.List.Elements.{Contains-get_or}
 use Rattle.std.proofs.lemmas.Map.Keys.{Less-from_sorted}
 use Rattle.std.specs.declared.cmp.Ordering.TheVariants.{Less}
 use Rattle.ta_core.specs.TreeAutomaton.{TreeAutomaton}
-use Rattle.ta_clean.specs.Meeting.{Meets, FinalsMeet, IsLeastMeeting}
+use Rattle.ta_core.specs.Meeting.{Meets}
+use Rattle.ta_clean.specs.Meeting.{FinalsMeet, IsLeastMeeting}
 use Rattle.ta_clean.specs.Walking.{IsLeastIn}
 
 below : (m n : ℕ) → nat_cmp m n ≡ Less → m < n

@@ -8,11 +8,11 @@ use Rattle.std.proofs.lemmas.List.Elements.{All-set, All-replicate, All-contains
 use Rattle.std.proofs.lemmas.List.Sums.{sum_by-set, sum_by-cons}
 use Rattle.ranked_terms.specs.Terms.{node, size_of, config_of}
 use Rattle.ranked_terms.specs.declared.term.Term.{Term}
-use Rattle.ranked_terms.proofs.TermLaws.{config_node, size_node, term_induction}
+use Rattle.ranked_terms.specs.lemmas.TermLaws.{config_node, size_node, term_induction}
 use Rattle.ta_core.specs.TreeAutomaton.{IsSound, IsTransOf, trans_of}
 use Rattle.ta_core.specs.declared.trans.Trans.{Trans}
 use Rattle.ta_core.specs.Runs.{Runs, RunsAll, Reaches}
-use Rattle.ta_core.proofs.RunsLaws.{run_of_app, run_ends, zip_from_all}
+use Rattle.ta_core.specs.lemmas.RunsLaws.{run_of_app, run_ends, zip_from_all}
 use Rattle.ta_clean.specs.Products.{TwoAutomata}
 use Rattle.ta_clean.specs.Sizes.{Sizing, IsSizing, IsUnmade, IsPairOf, IsLowered, IsMadeBy, AreMade, AreSettled, SettledByFirst, SettledBySecond, Passes, HasSizes, unmade, made_at, size_at, sum_at, total}
 use Rattle.ta_clean.specs.declared.sizes.Made.{Made}

@@ -3,7 +3,7 @@
 use Rattle.std.specs.Prelude.{◌≡◌, ℕ, ◌<◌, ◌≤◌, List, length, zip, Some, slice_get, All, Contains}
 use Rattle.ta_core.specs.TreeAutomaton.{TreeAutomaton}
 use Rattle.ta_core.specs.declared.trans.Trans.{Trans}
-use Rattle.ta_clean.specs.Meeting.{Meets}
+use Rattle.ta_core.specs.Meeting.{Meets}
 use Rattle.ta_clean.specs.Tables.{Table, IsMarked}
 use Rattle.ta_clean.specs.Uses.{places_of}
 use Rattle.ta_clean.specs.declared.meeting.uses.Use.{Use}

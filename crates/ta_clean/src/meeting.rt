@@ -3,7 +3,7 @@
 //! They are the reachable states of the product automaton (TATA, section 1.3). The product is never built: its transitions
 //! are pairs of transitions of one symbol, and an index of both automata finds those that a pair of states leads on to.
 ghost use Rattle.std.specs.Prelude.{◌≡◌, ◌↔◌, ℕ, IsTrue, IfOk};
-ghost use Rattle.ta_clean.specs.Meeting.{Meets};
+ghost use Rattle.ta_core.specs.Meeting.{Meets};
 ghost use Rattle.ta_clean.specs.Tables.{IsMarked};
 ghost use Rattle.ta_clean.specs.Products.{HasRoom};
 

@@ -1,7 +1,8 @@
 //! The least sizes of the terms that run to pairs of states, by passes over both automata until no number falls.
 ghost use Rattle.std.specs.Prelude.{◌≡◌, ◌≤◌, ℕ, IfOk, Contains, Some, slice_get};
 ghost use Rattle.ta_core.specs.declared.trans.Trans.{Trans as Transition};
-ghost use Rattle.ta_clean.specs.Sizes.{AreMade, AreSettled, HasSizes, IsLeastFinal, IsPairOf, IsTermOf, Passes, SettledBy, SettledByFirst, SettledBySecond, size_at};
+ghost use Rattle.ta_clean.specs.Sizes.{AreMade, AreSettled, HasSizes, IsLeastFinal, IsPairOf, IsTermOf, Passes};
+ghost use Rattle.ta_clean.specs.Sizes.{SettledBy, SettledByFirst, SettledBySecond, size_at};
 
 use crate::sizes::{Made, SizeTable};
 use ranked_terms::{Seq, Term};
@@ -60,7 +61,8 @@ impl<'a> Both<'a> {
         requires has { HasSizes self.now sizes.old }
         requires made { AreMade self.now sizes.old }
         ensures { Passes self.now sizes.old sizes.new result
-            (λ s. (left : Transition) → Contains self.now.first.trans left → (right : Transition) → Contains self.now.second.trans right → SettledBy left right s) }
+            (λ s. (left : Transition) → Contains self.now.first.trans left → (right : Transition)
+            → Contains self.now.second.trans right → SettledBy left right s) }
     {
         let mut fell = false;
         let lefts = self.first.trans();
@@ -76,7 +78,8 @@ impl<'a> Both<'a> {
         requires at { slice_get self.now.first.trans place ≡ Some left.now }
         requires has { HasSizes self.now sizes.old }
         requires made { AreMade self.now sizes.old }
-        ensures { Passes self.now sizes.old sizes.new result (λ s. (right : Transition) → Contains self.now.second.trans right → SettledBy left.now right s) }
+        ensures { Passes self.now sizes.old sizes.new result (λ s. (right : Transition)
+            → Contains self.now.second.trans right → SettledBy left.now right s) }
     {
         let mut fell = false;
         let rights = self.second.trans();
@@ -126,7 +129,8 @@ impl<'a> Both<'a> {
     fn by_firsts(&self, sizes: &mut SizeTable) -> bool
         requires has { HasSizes self.now sizes.old }
         requires made { AreMade self.now sizes.old }
-        ensures { Passes self.now sizes.old sizes.new result (λ s. (e : ℕ × ℕ) → Contains self.now.first.eps e → SettledByFirst self.now e s) }
+        ensures { Passes self.now sizes.old sizes.new result (λ s. (e : ℕ × ℕ) → Contains self.now.first.eps e
+            → SettledByFirst self.now e s) }
     {
         let mut fell = false;
         for (from, to) in self.first.eps() {
@@ -158,7 +162,8 @@ impl<'a> Both<'a> {
     fn by_seconds(&self, sizes: &mut SizeTable) -> bool
         requires has { HasSizes self.now sizes.old }
         requires made { AreMade self.now sizes.old }
-        ensures { Passes self.now sizes.old sizes.new result (λ s. (e : ℕ × ℕ) → Contains self.now.second.eps e → SettledBySecond self.now e s) }
+        ensures { Passes self.now sizes.old sizes.new result (λ s. (e : ℕ × ℕ) → Contains self.now.second.eps e
+            → SettledBySecond self.now e s) }
     {
         let mut fell = false;
         for (from, to) in self.second.eps() {

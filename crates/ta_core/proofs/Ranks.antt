@@ -1,5 +1,5 @@
 -- The transitions that begin so stand side by side.
-use Rattle.std.proofs.Common.{◌≡◌, ◌↔◌, ℕ, ◌+◌, ◌<◌, ◌≤◌, List, [], ◌∷◌, ◌++◌, length, get_or, take, drop, refl, sym, ap, ◌∙◌, subst, ⊎_elim, inl, inr, arith}
+use Rattle.std.proofs.Common.{◌≡◌, ◌↔◌, ℕ, ◌≤◌, List, [], ◌∷◌, ◌++◌, length, get_or, take, drop, refl, sym, ap, ◌∙◌, subst, ⊎_elim, arith}
 use Rattle.std.specs.declared.cmp.Ordering.{Ordering}
 use Rattle.std.specs.declared.cmp.Ordering.TheVariants.{Less, Equal, Greater}
 use Rattle.std.specs.Ordering.{nat_cmp, ordering_then, ordering_index}
@@ -63,12 +63,12 @@ take_begins (x ∷ p) rest = ap (λ l. x ∷ l) (take_begins p rest)
 pub rank_is : (key : ℕ) (p : List ℕ) (t : Trans) → (rank_of key p t ≡ 1) ↔ ((t.sym ≡ key) × ((rest : List ℕ) × (t.args ≡ p ++ rest)))
 rank_is key p t = (
   λ e.
-  let both = both_equal (nat_cmp t.sym key) (slice_cmp nat_cmp (take (length p) t.args) p) (is_equal _ e) in
-  let begins : take (length p) t.args ≡ p = exact_bytes (take (length p) t.args) p both.1 in
-  (exact_unsigned t.sym key both.0, (drop (length p) t.args, sym (take-append-drop (length p) t.args) ∙ ap (λ l. l ++ drop (length p) t.args) begins)),
+      let both = both_equal (nat_cmp t.sym key) (slice_cmp nat_cmp (take (length p) t.args) p) (is_equal _ e) in
+      let begins : take (length p) t.args ≡ p = exact_bytes (take (length p) t.args) p both.1 in
+      (exact_unsigned t.sym key both.0, (drop (length p) t.args, sym (take-append-drop (length p) t.args) ∙ ap (λ l. l ++ drop (length p) t.args) begins)),
   λ h.
-  let begins : take (length p) t.args ≡ p = ap (take (length p)) h.1.1 ∙ take_begins p h.1.0 in
-  ap (λ k. ordering_index (ordering_then (nat_cmp k key) (slice_cmp nat_cmp (take (length p) t.args) p))) h.0
-  ∙ (ap (λ l. ordering_index (ordering_then (nat_cmp key key) (slice_cmp nat_cmp l p))) begins
-  ∙ (ap (λ o. ordering_index (ordering_then o (slice_cmp nat_cmp p p))) (tied_itself nat_cmp_total key) ∙ ap ordering_index (tied_itself nat_list_cmp_total p))),
+      let begins : take (length p) t.args ≡ p = ap (take (length p)) h.1.1 ∙ take_begins p h.1.0 in
+      ap (λ k. ordering_index (ordering_then (nat_cmp k key) (slice_cmp nat_cmp (take (length p) t.args) p))) h.0
+      ∙ (ap (λ l. ordering_index (ordering_then (nat_cmp key key) (slice_cmp nat_cmp l p))) begins
+      ∙ (ap (λ o. ordering_index (ordering_then o (slice_cmp nat_cmp p p))) (tied_itself nat_cmp_total key) ∙ ap ordering_index (tied_itself nat_list_cmp_total p))),
 )

@@ -1,7 +1,6 @@
-pub mod ListLaws
-pub mod TermLaws
 pub mod StepLaws
 pub mod OverLaws
 pub mod VariableLaws
 pub mod RepeatLaws
 pub mod RuleLaws
+pub mod CountedLaws

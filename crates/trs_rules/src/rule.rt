@@ -109,11 +109,12 @@ impl Rule {
     }
 }
 
-/// Each member of a slice of rules is a rule.
+/// Each member of a slice of rules is a rule, which their types keep. It reads each rule once, and takes no memory.
 pub fn each_is_rule(rules: &[Rule])
     ensures { All IsRule rules.now }
 {
     for rule in rules {
+        // For the proof: the contract of a call of it says that the rule is one.
         let _ = rule.vars();
     }
 }

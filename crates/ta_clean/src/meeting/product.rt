@@ -6,7 +6,7 @@
 //! when the last of their pairs is taken all of them are marked.
 ghost use Rattle.std.specs.Prelude.{◌≡◌, ◌↔◌, ℕ, IsTrue, Contains};
 ghost use Rattle.ta_core.specs.declared.trans.Trans.{Trans as Transition};
-ghost use Rattle.ta_clean.specs.Meeting.{Meets};
+ghost use Rattle.ta_core.specs.Meeting.{Meets};
 ghost use Rattle.ta_clean.specs.Tables.{IsMarked, Keeps};
 ghost use Rattle.ta_clean.specs.Products.{AllMeet, HasTable, StepsTo, Enters, EntersBy, EntersAt, Starts, AreAll};
 ghost use Rattle.ta_clean.specs.Uses.{IsUseOf, AreUsesOf};
@@ -33,7 +33,8 @@ impl<'a> Model for Product<'a> {
 
     ghost view = { λ product. record { first = product.first.now; second = product.second.now } };
 
-    ghost invariant = { λ product. AreUsesOf product.first.now.trans product.first_uses.now.uses × AreUsesOf product.second.now.trans product.second_uses.now.uses };
+    ghost invariant = { λ product. AreUsesOf product.first.now.trans product.first_uses.now.uses
+        × AreUsesOf product.second.now.trans product.second_uses.now.uses };
 }
 
 impl<'a> Product<'a> {
@@ -94,7 +95,8 @@ impl<'a> Product<'a> {
         requires meets { AllMeet self.now grid.old }
         ensures meets { AllMeet self.now grid.new }
         ensures kept { Keeps grid.old grid.new }
-        ensures marked { (right : Transition) (next : ℕ × ℕ) → Enters self.now (IsMarked grid.old) left.now right next → IsMarked grid.new next }
+        ensures marked { (right : Transition) (next : ℕ × ℕ) → Enters self.now (IsMarked grid.old) left.now right next
+            → IsMarked grid.new next }
     {
         for right in self.second.trans_with(left.sym) {
             self.enter(left, right, grid);

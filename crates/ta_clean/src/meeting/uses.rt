@@ -118,7 +118,8 @@ impl Uses {
 /// Adds the uses in the transition, which stands at this place of its list, after those that are there. It takes no memory.
 fn add_uses(items: &mut Vec<Use>, position: usize, trans: &Trans)
     requires { length items.old.items + length trans.now.args ≤ vec_capacity items.old }
-    ensures members { (used : Used) → Contains items.new.items used ↔ (Contains items.old.items used ⊎ ((used.position ≡ position) × IsUseIn trans.now used)) }
+    ensures members { (used : Used) → Contains items.new.items used ↔ (Contains items.old.items used
+        ⊎ ((used.position ≡ position) × IsUseIn trans.now used)) }
     ensures length { length items.new.items ≡ length items.old.items + length trans.now.args }
     ensures capacity { vec_capacity items.old ≤ vec_capacity items.new }
 {

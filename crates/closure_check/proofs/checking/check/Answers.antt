@@ -29,7 +29,7 @@ returns-in-Some-clause-yes c = (λ e. cc, λ a. absurd (none_missing c.args.spec
 pub returns-in-Some-first_open-clause-yes : goal.returns-in-Some-first_open-clause-yes
 returns-in-Some-first_open-clause-yes c = (
   λ e. cc,
-  λ a. absurd (none_open c.args.automaton.now c.args.spec.now.rules c.in-Some-first_open.pair
+  λ a. absurd (none_open c.closed_automata_have_no_open_pair.ensures.all c.args.automaton.now c.args.spec.now.rules c.in-Some-first_open.pair
       (subst (λ R. IsFirstOpen c.args.automaton.now R c.in-Some-first_open.pair) c.as_slice.ensures c.in-Some-first_open.ensures.some) a.closed),
 )
 
@@ -39,6 +39,6 @@ returns-in-Some-least_meeting-clause-answer c = (c.in_default.ensures.none, subs
 pub returns-in-Some-least_meeting-clause-yes : goal.returns-in-Some-least_meeting-clause-yes
 returns-in-Some-least_meeting-clause-yes c = (
   λ e. cc,
-  λ a. absurd (none_meet c.args.spec.now.signature c.args.automaton.now c.args.spec.now.forbidden c.in-Some-least_meeting.first c.in-Some-least_meeting.second
+  λ a. absurd (none_meet c.accepted_terms_are_over.ensures c.args.spec.now.signature c.args.automaton.now c.args.spec.now.forbidden c.in-Some-least_meeting.first c.in-Some-least_meeting.second
       c.args.spec.now.forbidden_over c.in-Some-least_meeting.ensures.some a.misses),
 )

@@ -30,7 +30,7 @@ loop-rule-preserved c = record {
 }
 
 pub returns-clause-none : goal.returns-clause-none
-returns-clause-none c = closed_if_settled c.args.automaton.now c.args.rules.now c.states.ensures.sound
+returns-clause-none c = closed_if_settled c.closed_automata_have_no_open_pair.ensures.none c.args.automaton.now c.args.rules.now c.states.ensures.sound
     (subst (All IsRule) (take_all c.loop-rule.rule-index c.args.rules.now c.loop-rule-test.false) c.loop-rule.invariant.rules)
     (subst (λ R. All (IsSettled c.args.automaton.now c.args.rules.now) (triples_from c.args.automaton.now 0 R)) (take_all c.loop-rule.rule-index c.args.rules.now c.loop-rule-test.false) c.loop-rule.invariant.settled)
 

@@ -1,6 +1,6 @@
 use Rattle.std.proofs.Common.{List, ◌↔◌, ℕ, subst}
 use Rattle.ta_core.specs.declared.trans.Trans.{Trans}
-use Rattle.ta_clean.specs.Meeting.{Meets}
+use Rattle.ta_core.specs.Meeting.{Meets}
 use Rattle.ta_clean.specs.Tables.{IsMarked}
 use Rattle.ta_clean.specs.Products.{TwoAutomata}
 use Rattle.ta_clean.specs.Uses.{AreUsesOf}

@@ -1,8 +1,9 @@
-use Rattle.std.proofs.Common.{sym, ap, ◌∙◌, subst}
-use Rattle.std.specs.List.{Contains, All}
+use Rattle.std.proofs.Common.{subst}
+use Rattle.std.specs.List.{Contains}
 use Rattle.ta_core.specs.Reached.{ReachedFrom}
-use Rattle.ta_core.proofs.ReachedSets.{HasAll, closure_from, all_from}
-use Rattle.ta_core.proofs.RunStates.{exact_by}
+use Rattle.list_laws.proofs.Growing.{HasAll}
+use Rattle.ta_core.specs.lemmas.ReachedSets.{closure_from, all_from}
+use Rattle.ta_core.specs.lemmas.RunStates.{exact_by}
 use Rattle.ta_core.proofs.automaton.Automaton.closure_of.Goals as goal
 
 pub closed-requires : goal.closed-requires

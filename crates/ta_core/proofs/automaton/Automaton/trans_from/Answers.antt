@@ -1,9 +1,9 @@
-use Rattle.std.proofs.Common.{◌≡◌, ◌↔◌, ℕ, List, ◌++◌, Contains, ltb, leb, rules, take, drop, length}
+use Rattle.std.proofs.Common.{ltb, leb, rules, drop}
 use Rattle.std.proofs.lemmas.List.{take_rest}
 use Rattle.std.proofs.lemmas.List.Sorted.{IsPartitionPoint-from_clause, IsPartitionedBy-ltb, IsPartitionedBy-leb, IsNonDecreasingBy-drop}
 use Rattle.ta_core.specs.declared.trans.Trans.{Trans}
 use Rattle.ta_core.specs.Orders.{rank_of}
-use Rattle.ta_core.proofs.Lookups.{part_of_key}
+use Rattle.list_laws.proofs.Lookups.{part_of_key}
 use Rattle.ta_core.proofs.Ranks.{ranks_ascend, rank_is}
 use Rattle.ta_core.proofs.automaton.Automaton.trans_from.Goals as goal
 

@@ -1,6 +1,6 @@
 use Rattle.std.proofs.Common.{subst}
 use Rattle.std.proofs.lemmas.List.{take_all}
-use Rattle.ta_core.proofs.ReachedSets.{HasAll, has_none, has_one_more}
+use Rattle.list_laws.proofs.Growing.{HasAll, has_none, has_one_more}
 use Rattle.ta_core.proofs.reached.Reached.add_all.Goals as goal
 
 pub loop-state-init : goal.loop-state-init

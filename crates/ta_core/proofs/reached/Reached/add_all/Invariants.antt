@@ -1,5 +1,5 @@
 use Rattle.std.proofs.Common.{take}
-use Rattle.ta_core.proofs.ReachedSets.{HasAll}
+use Rattle.list_laws.proofs.Growing.{HasAll}
 use Rattle.ta_core.proofs.reached.Reached.add_all.Given as goal
 
 abbrev pub invariant-loop-state : goal.invariant-loop-state

@@ -1,6 +1,7 @@
 use Rattle.std.proofs.Common.{◌<◌, sym, ◌∙◌, arith}
 use Rattle.std.proofs.lemmas.Option.{slice_get_within}
-use Rattle.ta_core.proofs.ReachedSets.{closing_starts, closing_more, closing_ends, few_states, past_end}
+use Rattle.ta_core.specs.lemmas.ReachedSets.{closing_starts, closing_more, closing_ends, few_states}
+use Rattle.list_laws.proofs.Growing.{past_end}
 use Rattle.ta_core.proofs.reached.Reached.closed.Goals as goal
 
 pub loop-state-init : goal.loop-state-init
@@ -15,7 +16,7 @@ at_below c =
     omega (arith, end, few_states A c.args.self set c.loop-state.at c.loop-state.invariant c.eps_from.ensures.sound c.get.ensures.distinct)
 
 pub overflow_add-at : goal.overflow_add-at
-overflow_add-at c = omega (arith, at_below c, c.eps_from.ensures.sound.few)
+overflow_add-at c = omega (arith, at_below c, c.eps_from.ensures.few)
 
 pub loop-state-smaller : goal.loop-state-smaller
 loop-state-smaller c = omega (arith, at_below c)
