@@ -1,0 +1,6 @@
+use Rattle.std.proofs.Common.{◌≡◌, ℕ, take}
+use Rattle.ta_clean.proofs.CommonTerms.{IsMarking}
+use Rattle.ta_clean.proofs.meeting.product.Product.follow_seconds.Given as goal
+
+abbrev pub invariant-loop-to : goal.invariant-loop-to
+invariant-loop-to l = IsMarking l.self (λ (e : ℕ × ℕ) next. next ≡ (l.first, e.1)) l.fn.grid (take l.to-index l.to-items) l.grid

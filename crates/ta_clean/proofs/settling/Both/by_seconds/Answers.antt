@@ -1,0 +1,41 @@
+use Rattle.std.proofs.Common.{◌≡◌, ◌≤◌, ◌∙◌, ℕ, List, Some, Contains, get_or, slice_get, sym, ap, subst}
+use Rattle.std.proofs.lemmas.Option.{slice_get-get_or}
+use Rattle.std.proofs.lemmas.List.Elements.{Contains-get_or}
+use Rattle.ta_core.specs.TreeAutomaton.{IsSound}
+use Rattle.ta_core.specs.declared.trans.Trans.{Trans}
+use Rattle.ta_clean.specs.Products.{TwoAutomata}
+use Rattle.ta_clean.specs.Sizes.{Sizing, Passes, SettledBy, SettledByFirst, SettledBySecond, size_at}
+use Rattle.ta_clean.proofs.CommonTerms.{get_or_same}
+use Rattle.ta_clean.proofs.Sizing.{has_sizes, passes_start, passes_more, passes_all}
+use Rattle.ta_clean.proofs.Lowering.{first_pass, second_pass, pair_in}
+use Rattle.ta_clean.proofs.settling.Both.by_seconds.Goals as goal
+
+pub loop-from-init : goal.loop-from-init
+loop-from-init c = passes_start c.args.self.now (λ (e : ℕ × ℕ) (s : Sizing). SettledBySecond c.args.self.now e s) c.args.sizes.now c.requires.made
+
+pub by_second-lower-requires-clause-eps : goal.by_second-lower-requires-clause-eps
+by_second-lower-requires-clause-eps c =
+    let items = c.eps-from-items.result.now in
+    let k = c.loop-from.from-index in
+    subst (λ (both : TwoAutomata). Contains both.second.eps (get_or items k (0, 0))) c.self.view_is
+    (subst (λ (es : List (ℕ × ℕ)). Contains es (get_or items k (0, 0))) c.eps-from-items.ensures.value (Contains-get_or items k (0, 0) c.loop-from-test.true))
+
+pub by_second-lower-requires-clause-has : goal.by_second-lower-requires-clause-has
+by_second-lower-requires-clause-has c = has_sizes c.args.self.now c.args.sizes.now c.loop-from.sizes c.loop-from.fell _ c.requires.has c.loop-from.invariant
+
+pub by_second-lower-requires-clause-made : goal.by_second-lower-requires-clause-made
+by_second-lower-requires-clause-made c = c.loop-from.invariant.made
+
+pub loop-from-preserved : goal.loop-from-preserved
+loop-from-preserved c =
+    let items = c.eps-from-items.result.now in
+    let k = c.loop-from.from-index in
+    passes_more c.args.self.now (λ (e : ℕ × ℕ) (s : Sizing). SettledBySecond c.args.self.now e s) items k (get_or items k (0, 0)) c.args.sizes.now c.loop-from.sizes c.by_second-lower.new.sizes c.loop-from.fell c.by_second-lower.result
+    c.loop-from-test.true (get_or_same items k (0, 0) c.loop-from-test.true) c.loop-from.invariant c.by_second-lower.ensures
+
+pub returns : goal.returns
+returns c =
+    let both = c.args.self.now in
+    let is = c.eps-from-items.ensures.value ∙ ap (λ (both : TwoAutomata). both.second.eps) c.self.view_is in
+    subst (λ (es : List (ℕ × ℕ)). Passes both c.args.sizes.now c.loop-from.sizes c.loop-from.fell (λ s. (e : ℕ × ℕ) → Contains es e → SettledBySecond both e s)) is
+    (passes_all both (λ (e : ℕ × ℕ) (s : Sizing). SettledBySecond c.args.self.now e s) c.eps-from-items.result.now c.loop-from.from-index c.args.sizes.now c.loop-from.sizes c.loop-from.fell c.loop-from-test.false c.loop-from.invariant)

@@ -1,0 +1,15 @@
+use Rattle.std.proofs.Common.{List, subst}
+use Rattle.ta_core.specs.declared.trans.Trans.{Trans}
+use Rattle.ta_core.specs.Languages.{Accepts}
+use Rattle.ta_clean.specs.Meeting.{IsCommon}
+use Rattle.ta_clean.specs.Productive.{HasAllTerms}
+use Rattle.ta_clean.proofs.AllTerms.{common_is_accepted}
+use Rattle.ta_clean.proofs.Building.{witnesses_same}
+use Rattle.ta_clean.proofs.witness.least_witness.Goals as goal
+
+pub returns : goal.returns
+returns c =
+    let A = c.args.automaton.now in
+    let U = c.in_ok-all.all in
+    let has = subst (λ (ts : List Trans). HasAllTerms ts U) c.trans.ensures.value c.in_ok-all.ensures in
+    witnesses_same (IsCommon A U) (Accepts A) (common_is_accepted A U has) c.in_ok-witness.witness c.in_ok-witness.ensures

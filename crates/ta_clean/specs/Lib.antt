@@ -1,0 +1,10 @@
+pub mod Productive
+pub mod Meeting
+pub mod Tables
+pub mod Uses
+pub mod Slots
+pub mod Products
+pub mod Walking
+pub mod Least
+pub mod Sizes
+pub mod Laws

@@ -1,0 +1,116 @@
+-- Numbers for pairs of states of two automata: the least sizes of the terms that run to both, up to 1,024. These serve private contracts alone.
+use Rattle.std.specs.Prelude.{◌≡◌, ℕ, Bool, true, false, ◌+◌, ◌*◌, ◌<◌, ◌≤◌, List, map, sum, sum_by, zip, replicate, length, get_or, Some, slice_get, slice_set, All, Contains}
+use Rattle.ta_core.specs.TreeAutomaton.{TreeAutomaton}
+use Rattle.ranked_terms.specs.Terms.{config_of, size_of}
+use Rattle.ranked_terms.specs.declared.term.Term.{Term}
+use Rattle.ta_core.specs.Runs.{Runs, Reaches}
+use Rattle.ta_core.specs.declared.trans.Trans.{Trans}
+use Rattle.ta_clean.specs.Products.{TwoAutomata}
+use Rattle.ta_clean.specs.declared.sizes.Made.{Made}
+
+-- a number for each pair of a number below the height and one below the width, by the first and then by the second
+pub record Sizing : Type 0 where
+  pub height : ℕ
+  pub width : ℕ
+  pub made : List Made
+
+-- no term is known
+abbrev pub unmade : Made
+unmade = record { size = 1025; left = 0; right = 0 }
+
+pub record IsSizing (s : Sizing) : Type 0 where
+  pub low : s.height ≤ 16384
+  pub narrow : s.width ≤ 16384
+  pub full : length s.made ≡ s.height * s.width
+  pub capped : All (λ (m : Made). m.size ≤ 1025) s.made
+
+-- both bounds, and no pair has a term
+pub record IsUnmade (height width : ℕ) (s : Sizing) : Type 0 where
+  pub height_is : s.height ≡ height
+  pub width_is : s.width ≡ width
+  pub made_is : s.made ≡ replicate (height * width) unmade
+
+-- both numbers are below the bounds
+pub record IsPairOf (s : Sizing) (pair : ℕ × ℕ) : Type 0 where
+  pub first : pair.0 < s.height
+  pub second : pair.1 < s.width
+
+abbrev pub made_at : Sizing → ℕ × ℕ → Made
+made_at s pair = get_or s.made (pair.0 * s.width + pair.1) unmade
+
+abbrev pub size_at : Sizing → ℕ × ℕ → ℕ
+size_at s pair = (made_at s pair).size
+
+-- the sum of the numbers of the pairs at one place
+abbrev pub sum_at : Sizing → List ℕ → List ℕ → ℕ
+sum_at s ps qs = sum (map (size_at s) (zip ps qs))
+
+-- the pair has this, which is a lesser number, and nothing else changed
+pub record IsLowered (old new : Sizing) (pair : ℕ × ℕ) (made : Made) : Type 0 where
+  pub is : new ≡ record old { made = slice_set old.made (pair.0 * old.width + pair.1) made }
+  pub less : made.size < size_at old pair
+
+-- two transitions of one symbol, from which the pair is reached, make a term of no more than this number from such terms of their arguments
+pub record IsMadeBy (both : TwoAutomata) (s : Sizing) (pair : ℕ × ℕ) (made : Made) : Type 0 where
+  pub left : Trans
+  pub right : Trans
+  pub at_left : slice_get both.first.trans made.left ≡ Some left
+  pub at_right : slice_get both.second.trans made.right ≡ Some right
+  pub same : left.sym ≡ right.sym
+  pub count : length left.args ≡ length right.args
+  pub first : Reaches both.first left.to pair.0
+  pub second : Reaches both.second right.to pair.1
+  pub small : sum_at s left.args right.args + 1 ≤ made.size
+
+-- each number up to 1,024 is made so
+abbrev pub AreMade : TwoAutomata → Sizing → Type 0
+AreMade both s = (pair : ℕ × ℕ) → IsPairOf s pair → size_at s pair ≤ 1024 → IsMadeBy both s pair (made_at s pair)
+
+-- the states of both automata are below the bounds
+pub record HasSizes (both : TwoAutomata) (s : Sizing) : Type 0 where
+  pub first : both.first.next ≤ s.height
+  pub second : both.second.next ≤ s.width
+
+-- the sum of all numbers
+abbrev pub total : Sizing → ℕ
+total s = sum_by (λ (m : Made). m.size) s.made
+
+-- ---- passes
+
+-- numbers may have fallen; if none has, nothing changed, and this holds
+pub record Passes (both : TwoAutomata) (old new : Sizing) (fell : Bool) (Done : Sizing → Type 0) : Type 0 where
+  pub height : new.height ≡ old.height
+  pub width : new.width ≡ old.width
+  pub made : AreMade both new
+  pub total_falls : total new ≤ total old
+  pub fallen : fell ≡ true → total new < total old
+  pub same : fell ≡ false → new ≡ old
+  pub done : fell ≡ false → Done old
+
+-- no two transitions of one symbol lead to a lesser number
+abbrev pub SettledBy : Trans → Trans → Sizing → Type 0
+SettledBy left right s = left.sym ≡ right.sym → length left.args ≡ length right.args → size_at s (left.to, right.to) ≤ sum_at s left.args right.args + 1
+
+-- the epsilon transition of the first automaton doesn't, with any state of the second
+abbrev pub SettledByFirst : TwoAutomata → ℕ × ℕ → Sizing → Type 0
+SettledByFirst both e s = (q : ℕ) → Contains both.second.states q → size_at s (e.1, q) ≤ size_at s (e.0, q)
+
+abbrev pub SettledBySecond : TwoAutomata → ℕ × ℕ → Sizing → Type 0
+SettledBySecond both e s = (p : ℕ) → Contains both.first.states p → size_at s (p, e.1) ≤ size_at s (p, e.0)
+
+pub record AreSettled (both : TwoAutomata) (s : Sizing) : Type 0 where
+  pub trans : (left right : Trans) → Contains both.first.trans left → Contains both.second.trans right → SettledBy left right s
+  pub first : (e : ℕ × ℕ) → Contains both.first.eps e → SettledByFirst both e s
+  pub second : (e : ℕ × ℕ) → Contains both.second.eps e → SettledBySecond both e s
+
+-- the term runs to both states, and has at most so many symbols
+pub record IsTermOf (both : TwoAutomata) (pair : ℕ × ℕ) (n : ℕ) (t : Term) : Type 0 where
+  pub first : Runs both.first (config_of t) pair.0
+  pub second : Runs both.second (config_of t) pair.1
+  pub small : size_of t ≤ n
+
+-- both are final, and no pair of final states has a lesser number
+pub record IsLeastFinal (both : TwoAutomata) (s : Sizing) (pair : ℕ × ℕ) : Type 0 where
+  pub first : Contains both.first.finals pair.0
+  pub second : Contains both.second.finals pair.1
+  pub least : (p q : ℕ) → Contains both.first.finals p → Contains both.second.finals q → size_at s pair ≤ size_at s (p, q)

@@ -1,0 +1,106 @@
+//! How small the terms are that run to pairs of states.
+ghost use Rattle.std.specs.Prelude.{◌≡◌, ◌≤◌, ◌<◌, ◌+◌, true, false, length, IfOk};
+ghost use Rattle.ta_clean.specs.Sizes.{IsLowered, IsPairOf, IsSizing, IsUnmade, made_at, size_at, sum_at};
+
+use std::alloc::{AllocError, Global};
+use std::marker::Model;
+
+/// The number of a pair to which no term is known to run of at most 1,024 symbols.
+pub(crate) const TOO_LARGE: u32 = 1025;
+
+/// How small a term runs to a pair of states, and by which transitions of the two automata it is made.
+#[derive(Clone, Copy)]
+pub(crate) struct Made {
+    /// A term of at most so many symbols runs to the pair.
+    pub(crate) size: u32,
+    /// The place of the first automaton's transition at its root.
+    pub(crate) left: usize,
+    /// The place of the second automaton's transition at its root.
+    pub(crate) right: usize,
+}
+
+/// What is known of a pair at first.
+const UNMADE: Made = Made {
+    size: TOO_LARGE,
+    left: 0,
+    right: 0,
+};
+
+/// How small terms run to the pairs of a number below the height and one below the width. Contracts see the numbers.
+#[derive(Drop)]
+pub(crate) struct SizeTable {
+    height: usize,
+    width: usize,
+    made: Vec<Made>,
+}
+
+impl Model for SizeTable {
+    ghost use Rattle.ta_clean.specs.Sizes.{Sizing, IsSizing};
+
+    ghost Value = { Sizing };
+
+    ghost view = { λ sizes. record { height = sizes.height; width = sizes.width; made = sizes.made.items } };
+
+    ghost invariant = { λ sizes. IsSizing (record { height = sizes.height; width = sizes.width; made = sizes.made.items }) };
+}
+
+impl SizeTable {
+    /// A table of these bounds in which no pair has a term. The only error is running out of memory.
+    pub(crate) fn new(alloc: Global, height: usize, width: usize) -> Result<SizeTable, AllocError>
+        requires low { height ≤ 16384 }
+        requires narrow { width ≤ 16384 }
+        ensures { IfOk result (IsUnmade height width) }
+    {
+        let made = vec![in alloc; UNMADE; height * width]?;
+        Ok(SizeTable {
+            height,
+            width,
+            made,
+        })
+    }
+
+    /// What is known of the pair.
+    pub(crate) fn get(&self, first: u32, second: u32) -> Made
+        ensures value { result ≡ made_at self.now (first, second) }
+        ensures capped { result.size ≤ 1025 }
+    {
+        let place = first as usize * self.width + second as usize;
+        if place < self.made.len() {
+            return self.made[place];
+        }
+        UNMADE
+    }
+
+    /// Takes this in place of what is known of the pair, if it is a smaller number, and says whether it is.
+    pub(crate) fn lower(&mut self, first: u32, second: u32, made: Made) -> bool
+        requires { IsPairOf self.old (first, second) }
+        ensures lowered { result ≡ true → IsLowered self.old self.new (first, second) made }
+        ensures same { result ≡ false → self.new ≡ self.old }
+        ensures least { result ≡ false → size_at self.old (first, second) ≤ made.size }
+        ensures table { IsSizing self.old }
+    {
+        let place = first as usize * self.width + second as usize;
+        let smaller = made.size < self.made[place].size;
+        if smaller {
+            self.made[place] = made;
+        }
+        smaller
+    }
+
+    /// The sum of the numbers of the pairs of a first and a second state at one place, and 1, at most `TOO_LARGE`.
+    pub(crate) fn sum_of(&self, firsts: &[u32], seconds: &[u32]) -> u32
+        requires { length firsts.now ≡ length seconds.now }
+        ensures small { result < 1025 → result ≡ sum_at self.now firsts.now seconds.now + 1 }
+        ensures large { 1025 ≤ result → 1025 ≤ sum_at self.now firsts.now seconds.now + 1 }
+        ensures capped { result ≤ 1025 }
+    {
+        let mut sum = 1;
+        for (place, first) in firsts.iter().enumerate() {
+            sum += self.get(*first, seconds[place]).size;
+            if sum >= TOO_LARGE {
+                return TOO_LARGE;
+            }
+        }
+        sum
+    }
+}

@@ -1,0 +1,68 @@
+//! Terms of least size that an automaton accepts, or two automata.
+ghost use Rattle.std.specs.Prelude.{IfOk};
+ghost use Rattle.ta_core.specs.Languages.{Accepts};
+ghost use Rattle.ta_clean.specs.Meeting.{IsCommon};
+ghost use Rattle.ta_clean.specs.Least.{Witnesses};
+
+use crate::emptiness::all_terms;
+use crate::final_pairs::least_meeting;
+use crate::meeting::Meetings;
+use crate::settling::Both;
+use crate::sizes::{SizeTable, TOO_LARGE};
+use ranked_terms::{Seq, Term};
+use std::alloc::{AllocError, Global};
+use ta_core::Automaton;
+
+/// What shows that a language is not empty.
+#[derive(Debug, Drop)]
+pub enum Witness {
+    /// The language is empty.
+    None,
+    /// A term of least size, which has at most 1,024 symbols.
+    Term(Term),
+    /// There is a term, and each has more than 1,024 symbols.
+    Large,
+}
+
+/// What shows it where it is known that there is a term.
+#[derive(Debug, Drop)]
+pub enum Least {
+    /// A term of least size, which has at most 1,024 symbols.
+    Term(Term),
+    /// Each term has more than 1,024 symbols.
+    Large,
+}
+
+/// A term of least size that the automaton accepts: `None` exactly where it accepts none, and `Large` exactly where each has
+/// more than 1,024 symbols. The only error is running out of memory.
+pub fn least_witness(alloc: Global, automaton: &Automaton) -> Result<Witness, AllocError>
+    ensures { IfOk result (Witnesses (Accepts automaton.now)) }
+{
+    let all = all_terms(alloc, automaton.trans())?;
+    let witness = common_witness(alloc, automaton, &all)?;
+    Ok(witness)
+}
+
+/// A term of least size that both automata accept: `None` exactly where they accept none in common, and `Large` exactly where
+/// each has more than 1,024 symbols. The only error is running out of memory.
+pub fn common_witness(
+    alloc: Global,
+    first: &Automaton,
+    second: &Automaton,
+) -> Result<Witness, AllocError>
+    ensures { IfOk result (Witnesses (IsCommon first.now second.now)) }
+{
+    let mut meetings = Meetings::new(alloc, first, second)?;
+    let Some((some_first, some_second)) = least_meeting(&mut meetings, first, second) else {
+        return Ok(Witness::None);
+    };
+    let both = Both::new(first, second);
+    let mut sizes = SizeTable::new(alloc, first.next() as usize, second.next() as usize)?;
+    both.settle(&mut sizes);
+    let (state, other) = both.least_final(&sizes, some_first, some_second);
+    if sizes.get(state, other).size >= TOO_LARGE {
+        return Ok(Witness::Large);
+    }
+    let term = both.build(alloc, &sizes, state, other)?;
+    Ok(Witness::Term(term))
+}
