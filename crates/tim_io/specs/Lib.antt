@@ -8,4 +8,5 @@ pub mod MemSink
 pub mod Pieces
 pub mod Plans
 pub mod Shelves
+pub mod System
 pub mod Whole

@@ -1,6 +1,6 @@
--- What reading a whole file does (this project's own).
-use Rattle.std.specs.Prelude.{◌≡◌, ℕ, ◌+◌, ◌<◌, ◌≤◌, List, Option, Result, Ok, Err, length}
-use Rattle.std.specs.Io.KnownBytes.{Consumes, IsAtEnd}
+-- What reading a whole file and writing a whole text do (this project's own).
+use Rattle.std.specs.Prelude.{◌≡◌, ℕ, ◌+◌, ◌<◌, ◌≤◌, List, Option, Result, Ok, Err, length, take}
+use Rattle.std.specs.Io.KnownBytes.{Consumes, Appends, IsAtEnd}
 use Rattle.tim_io.specs.declared.whole.ReadError.{ReadError}
 use Rattle.tim_io.specs.declared.whole.ReadError.TheVariants.{Fault, TooLong, Memory}
 
@@ -25,3 +25,7 @@ GivesWhole limit left (Ok bytes) = (bytes ≡ left) × (length left ≤ limit)
 GivesWhole limit left (Err TooLong) = limit < length left
 GivesWhole limit left (Err Fault) = Unit {0}
 GivesWhole limit left (Err Memory) = Unit {0}
+
+-- a part of the text, from its front and not all of it, was written
+abbrev pub AppendsPart : Option (List ℕ) → Option (List ℕ) → List ℕ → Type 0
+AppendsPart old new text = (n : ℕ) × (n < length text) × Appends old new (take n text)

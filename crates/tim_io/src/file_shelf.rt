@@ -1,9 +1,12 @@
 //! The real files.
-ghost use Rattle.std.specs.Prelude.{◌≡◌, ℕ, ◌≤◌, List, None, IfOk, OnErr, OnOk, length};
-ghost use Rattle.tim_io.specs.Causes.{one_more};
-ghost use Rattle.tim_io.specs.FileShelf.{faults_in};
+ghost use Rattle.std.specs.Prelude.{◌≡◌, ℕ, ◌<◌, ◌≤◌, List, Ok, IfOk, IfErr, IsErrOf, IsSome, OnErr, OnOk, length, option_and_then};
+ghost use Rattle.std.specs.Io.KnownBytes.{ReadConsumes};
+ghost use Rattle.tim_io.specs.Causes.{one_more, Rose};
+ghost use Rattle.tim_io.specs.FileShelf.{untold, faults_in, file_in, left_in};
+ghost use Rattle.tim_io.specs.Shelves.{Takes, OthersStay};
 
 use crate::shelf::{Shelf, TakeError};
+use crate::system::read_answer;
 use std::alloc::Global;
 use std::collections::BTreeMap;
 use std::io::Read;
@@ -21,6 +24,9 @@ impl<F: Read + Drop> Opened<F> {
     /// Reads on, and opens the file where it is not open yet.
     fn read<R: Files<File = F>>(&mut self, rt: &R, name: &str, buf: &mut [u8]) -> io::Result<usize>
         ensures bound { IfOk result (λ n. n ≤ length buf.new) }
+        ensures open { OnOk result (IsSome self.new.file) }
+        ensures reads { ReadConsumes (option_and_then F.remaining self.old.file)
+            (option_and_then F.remaining self.new.file) result buf.new }
         ensures faults { self.new.faults ≡ self.old.faults }
     {
         let mut file = match self.file.take() {
@@ -40,17 +46,17 @@ impl<F: Read + Drop> Opened<F> {
         buf: &mut [u8],
     ) -> Result<usize, TakeError>
         ensures bound { IfOk result (λ n. n ≤ length buf.new) }
+        // The file is open at `Ok`, and the answer is then what its own reads give.
+        ensures open { OnOk result (IsSome self.new.file) }
+        ensures reads { ReadConsumes (option_and_then F.remaining self.old.file)
+            (option_and_then F.remaining self.new.file) result buf.new }
         ensures later { self.old.faults ≤ self.new.faults }
+        ensures failed { IfErr result (λ error. error ≡ TakeError.Failed) }
         ensures fault { OnErr result (self.new.faults ≡ one_more self.old.faults) }
         ensures no_fault { OnOk result (self.new.faults ≡ self.old.faults) }
     {
-        match self.read(rt, name, buf) {
-            Ok(count) => Ok(count),
-            Err(_) => {
-                self.faults = self.faults.saturating_add(1);
-                Err(TakeError::Failed)
-            }
-        }
+        let answer = self.read(rt, name, buf);
+        read_answer(answer, &mut self.faults)
     }
 }
 
@@ -77,13 +83,35 @@ impl<'a, R: Files> FileShelf<'a, R> {
 }
 
 impl<R: Files> Shelf for FileShelf<'_, R> {
-    ghost left = { λ shelf name. None };
+    ghost left = { λ shelf. untold };
 
     ghost faults = { λ shelf. faults_in shelf.files };
 
     /// A file that cannot be opened or read fails. `Memory` comes where there is no room to keep the file.
     #[tactic(auto, using(std::proofs::lemmas::Map::Text::text_keys))]
-    fn take(&mut self, name: &str, buf: &mut [u8]) -> Result<usize, TakeError> {
+    fn take(&mut self, name: &str, buf: &mut [u8]) -> Result<usize, TakeError>
+        ensures bound { IfOk result (λ n. n ≤ length buf.new) }
+        ensures takes { Takes (untold name.now) (untold name.now) result buf.new }
+        ensures empty { length buf.new ≡ 0 →
+            (result ≡ Ok 0) × (untold name.now ≡ untold name.now)
+            × (faults_in self.new.files name.now ≡ faults_in self.old.files name.now) }
+        ensures later { faults_in self.old.files name.now ≤ faults_in self.new.files name.now }
+        ensures cause { IsErrOf result TakeError.Failed →
+            Rose (faults_in self.old.files name.now) (faults_in self.new.files name.now) }
+        ensures other_faults { OthersStay (faults_in self.old.files) (faults_in self.new.files) name.now }
+
+        // Beside the trait's clauses, for the files of any runtime: at `Ok` the file is open, and where its own type tells
+        // what is left of it, the answer is what its reads gave. So a read that failed is never answered as the end.
+        ensures open { 0 < length buf.new → OnOk result (IsSome (file_in self.new.files name.now)) }
+        ensures reads { ReadConsumes (left_in ⟦<R::File as Read>⟧.remaining self.old.files name.now)
+            (left_in ⟦<R::File as Read>⟧.remaining self.new.files name.now) result buf.new }
+        ensures other_files { OthersStay (file_in self.old.files) (file_in self.new.files) name.now }
+        ensures fault { IsErrOf result TakeError.Failed →
+            faults_in self.new.files name.now ≡ one_more (faults_in self.old.files name.now) }
+        ensures memory { IsErrOf result TakeError.Memory →
+            faults_in self.new.files name.now ≡ faults_in self.old.files name.now }
+        ensures no_fault { OnOk result (faults_in self.new.files name.now ≡ faults_in self.old.files name.now) }
+    {
         if buf.is_empty() {
             return Ok(0);
         }

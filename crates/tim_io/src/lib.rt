@@ -18,6 +18,7 @@ mod plan;
 mod shelf;
 mod sink;
 mod std_sink;
+mod system;
 mod whole;
 
 pub use file_shelf::FileShelf;

@@ -1,9 +1,9 @@
 //! Whole files, and whole texts.
-ghost use Rattle.std.specs.Prelude.{ℕ, ◌<◌, ◌≤◌, length, take, IsErrOf, IfSome, OnOk, OnErr};
+ghost use Rattle.std.specs.Prelude.{◌<◌, ◌≤◌, IsErrOf, IfSome, OnOk, OnErr};
 ghost use Rattle.std.specs.Io.KnownBytes.{Appends};
 ghost use Rattle.tim_io.specs.Causes.{Rose};
 ghost use Rattle.tim_io.specs.Shelves.{OthersStay};
-ghost use Rattle.tim_io.specs.Whole.{Reads, GivesWhole};
+ghost use Rattle.tim_io.specs.Whole.{Reads, GivesWhole, AppendsPart};
 
 use crate::shelf::{Shelf, TakeError};
 use crate::sink::{Failed, Sink};
@@ -70,9 +70,7 @@ pub fn read_all<F: Shelf>(
 /// `Failed` comes only where the sink's count of faults rose; then some of the bytes, from the front, are written.
 pub fn write_all<K: Sink>(sink: &mut K, bytes: &[u8]) -> Result<(), Failed>
     ensures whole { OnOk result (Appends (K.written sink.old) (K.written sink.new) bytes.now) }
-    ensures prefix { OnErr result
-        ((n : ℕ) × (n < length bytes.now)
-        × Appends (K.written sink.old) (K.written sink.new) (take n bytes.now)) }
+    ensures prefix { OnErr result (AppendsPart (K.written sink.old) (K.written sink.new) bytes.now) }
     ensures later { K.faults sink.old ≤ K.faults sink.new }
     ensures cause { OnErr result (Rose (K.faults sink.old) (K.faults sink.new)) }
 {
