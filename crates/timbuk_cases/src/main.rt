@@ -2,6 +2,7 @@
 //! and an output in memory, and what it answers and writes is printed. The stored output has the expected answers.
 #![tactic(auto)]
 
+mod devices;
 mod files;
 mod outcome;
 mod table;

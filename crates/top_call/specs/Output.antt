@@ -1,5 +1,5 @@
 -- What the program answers and writes, by its words and by what its file has. This project's own.
-use Rattle.std.specs.Prelude.{◌≡◌, ◌⊎◌, ℕ, ◌+◌, ◌≤◌, ◌<◌, List, [], ◌∷◌, ◌++◌, Option, Some, None, length, take, codes}
+use Rattle.std.specs.Prelude.{◌≡◌, ◌⊎◌, ℕ, ◌+◌, ◌≤◌, ◌<◌, List, [], ◌∷◌, ◌++◌, Option, Some, None, length, codes}
 use Rattle.std.specs.List.{range_with_len}
 use Rattle.std.specs.Io.KnownBytes.{Appends, Keeps, Consumes, IsAtEnd}
 use Rattle.ranked_terms.specs.declared.term.Term.{Term}
@@ -7,7 +7,7 @@ use Rattle.ta_core.specs.declared.spec.Spec.{Spec}
 use Rattle.ta_core.specs.Languages.{Accepts}
 use Rattle.ta_core.specs.Acceptance.{IsAccepted}
 use Rattle.ta_core.specs.Reachability.{Reachable, Forbidden}
-use Rattle.tim_io.specs.Whole.{TookAtMost, TookJust}
+use Rattle.tim_io.specs.Whole.{TookAtMost, TookJust, AppendsPart}
 use Rattle.timbuk_reader.specs.declared.fault.SpecFault.{SpecFault}
 use Rattle.timbuk_reader.specs.SpecText.{SpecText}
 use Rattle.timbuk_reader.specs.Faults.{SpecFaultAt}
@@ -96,10 +96,6 @@ usage = codes "usage: timbuk complete FILE [OPTIONS] | check SPEC CERT | ta OP F
 abbrev pub Output : List Text → (Text → Option (List ℕ)) → (Text → Option (List ℕ)) → (Text → Type 0) → Text → Status → Type 0
 Output words given left rose text BadWords = (file_of words ≡ None) × (text ≡ line usage)
 Output words given left rose text status = (name : Text) × (file_of words ≡ Some name) × Says name (given name) (left name) (rose name) text status
-
--- a part of the text, from its front, was written
-abbrev pub AppendsPart : Option (List ℕ) → Option (List ℕ) → Text → Type 0
-AppendsPart old new text = (n : ℕ) × (n < length text) × Appends old new (take n text)
 
 -- the words name a file, and at most one byte more than the limit was taken of it
 abbrev pub TookSome : List Text → (Text → Option (List ℕ)) → (Text → Option (List ℕ)) → Type 0
