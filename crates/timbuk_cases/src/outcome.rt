@@ -21,12 +21,7 @@ fn words_of(alloc: Global, case: &Case) -> Result<Vec<String>, AllocError> {
 }
 
 /// Runs the words over the files and the output.
-fn answer_of(
-    alloc: Global,
-    words: &[String],
-    shelf: &mut MemShelf,
-    sink: &mut MemSink,
-) -> Status {
+fn answer_of(alloc: Global, words: &[String], shelf: &mut MemShelf, sink: &mut MemSink) -> Status {
     run(alloc, words, shelf, sink)
 }
 

@@ -17,8 +17,7 @@ use Rattle.trs_rules.specs.Rules.{RewriteRule, IsRule}
 use Rattle.ta_core.specs.TreeAutomaton.{TreeAutomaton}
 use Rattle.ta_core.specs.Runs.{Runs}
 use Rattle.ta_core.specs.Closure.{IsClosedUnder, Closed, state_in}
-use Rattle.ta_core.specs.ClosureLaws.{IsClosedAt}
-use Rattle.ta_core.proofs.Closure.{closed_by_lists}
+use Rattle.ta_core.specs.ClosureLaws.{IsClosedAt, ClosedByLists}
 use Rattle.top_call.specs.Closing.{IsClosedFrom}
 
 -- ---- searches
@@ -125,10 +124,10 @@ popped {xs} {n} x e f long h =
     h ∙ ((λ i. take (one i) ((f ∙ e) i)) ∙ take-append_seam xs (x ∷ []))
 
 -- from no states on
-pub closed_from_nothing : (A : TreeAutomaton) (rule : RewriteRule) → IsRule rule → (states vars : List ℕ) → states ≡ [] → vars ≡ rule.vars → {E : Type 0} (r : Result Bool E) →
+pub closed_from_nothing : ClosedByLists → (A : TreeAutomaton) (rule : RewriteRule) → IsRule rule → (states vars : List ℕ) → states ≡ [] → vars ≡ rule.vars → {E : Type 0} (r : Result Bool E) →
     IfOk r (λ b. IsTrue b ↔ IsClosedFrom A rule states (length vars)) → IfOk r (λ b. IsTrue b ↔ IsClosedUnder A rule)
-closed_from_nothing A rule is states vars none is_vars r exact =
-    let lists = closed_by_lists A rule is in
+closed_from_nothing by_lists A rule is states vars none is_vars r exact =
+    let lists = by_lists A rule is in
     let from = λ (qs vs : List ℕ). IsClosedFrom A rule qs (length vs) in
     let there = λ (h : from states vars). subst (λ vs. from [] vs) is_vars (subst (λ qs. from qs vars) none h) in
     let back = λ (h : from [] rule.vars). subst (λ qs. from qs vars) (sym none) (subst (λ vs. from [] vs) (sym is_vars) h) in

@@ -13,16 +13,15 @@ use Rattle.trs_rules.specs.Rules.{RewriteRule, IsRule}
 use Rattle.ta_core.specs.TreeAutomaton.{IsSound}
 use Rattle.ta_core.specs.SpecRules.{automaton_is_over}
 use Rattle.ta_core.specs.Closure.{Closed}
-use Rattle.ta_core.proofs.Acceptance.{accepted_terms_are_over, accepted_is_safe}
-use Rattle.ta_core.proofs.Closure.{closed_accepts_reached}
-use Rattle.ta_core.proofs.Containment.{contains_itself}
+use Rattle.ta_core.specs.AcceptanceLaws.{ContainsItself, AcceptedTermsAreOver, AcceptedIsSafe}
+use Rattle.ta_core.specs.ClosureLaws.{ClosedAcceptsReached}
 use Rattle.ta_core.specs.declared.spec.Spec.{Spec}
 use Rattle.top_call.specs.Meeting.{HaveNoCommonTerm}
 use Rattle.top_call.specs.Words.{file_of}
 use Rattle.timbuk_reader.specs.Source.{RuleDeclaration}
 use Rattle.timbuk_reader.specs.Naming.{Names}
 use Rattle.timbuk_reader.specs.SpecText.{IsRuleFrom, SpecText}
-use Rattle.timbuk_reader.proofs.OneSpec.{one_spec}
+use Rattle.timbuk_reader.specs.Laws.{OneSpec}
 use Rattle.top_call.specs.Output.{Text, SettlesItself, IsSafe, IsNoSpec, Decides, Judges, OfFile, Says, Answers, limit, line}
 use Rattle.top_call.specs.declared.status.Status.{Status}
 use Rattle.top_call.specs.declared.status.Status.TheVariants.{Unreachable, Undecided, BadWords, BadSpec, TooLong, ReadFault, WriteFault, Memory}
@@ -35,55 +34,56 @@ rules_are names [] (rule ∷ rules) zip = absurd zip
 rules_are names (d ∷ ds) [] zip = absurd zip
 
 -- where the initial automaton is closed and misses the forbidden language, it settles the question
-pub settled_by : (spec : Spec) → IsSound spec.initial → Closed spec.initial spec.rules → HaveNoCommonTerm spec.initial spec.forbidden → SettlesItself spec
-settled_by spec sound closed misses =
-    record { contained = contains_itself spec.initial sound; closed = closed; misses = λ t one other. misses t one.accepted other.accepted }
+pub settled_by : ContainsItself → (spec : Spec) → IsSound spec.initial → Closed spec.initial spec.rules → HaveNoCommonTerm spec.initial spec.forbidden → SettlesItself spec
+settled_by itself spec sound closed misses =
+    record { contained = itself spec.initial sound; closed = closed; misses = λ t one other. misses t one.accepted other.accepted }
 
 -- a test of closure is a test of this, where the initial automaton misses the forbidden language
-pub settles_by_both : (spec : Spec) → IsSound spec.initial → HaveNoCommonTerm spec.initial spec.forbidden → (rules : List RewriteRule) → rules ≡ spec.rules → (result : Result Bool AllocError) → IfOk result (λ yes. IsTrue yes ↔ Closed spec.initial rules) → IfOk result (λ yes. IsTrue yes ↔ SettlesItself spec)
-settles_by_both spec sound misses rules are (Ok answer) exact = (
-  λ t. settled_by spec sound (subst (Closed spec.initial) are (exact.0 t)) misses,
+pub settles_by_both : ContainsItself → (spec : Spec) → IsSound spec.initial → HaveNoCommonTerm spec.initial spec.forbidden → (rules : List RewriteRule) → rules ≡ spec.rules → (result : Result Bool AllocError) → IfOk result (λ yes. IsTrue yes ↔ Closed spec.initial rules) → IfOk result (λ yes. IsTrue yes ↔ SettlesItself spec)
+settles_by_both itself spec sound misses rules are (Ok answer) exact = (
+  λ t. settled_by itself spec sound (subst (Closed spec.initial) are (exact.0 t)) misses,
   λ settles. exact.1 (subst (Closed spec.initial) (sym are) settles.closed),
 )
-settles_by_both spec sound misses rules are (Err e) exact = tt
+settles_by_both itself spec sound misses rules are (Err e) exact = tt
 
 -- where it doesn't miss the forbidden language, it settles nothing
-pub meets_unsettled : (spec : Spec) → IsTrue (automaton_is_over spec.signature spec.initial) → (HaveNoCommonTerm spec.initial spec.forbidden → ⊥) → SettlesItself spec → ⊥
-meets_unsettled spec over meets settles = meets (λ t one other.
-    let is_over = accepted_terms_are_over spec.signature spec.initial over t one in
+pub meets_unsettled : AcceptedTermsAreOver → (spec : Spec) → IsTrue (automaton_is_over spec.signature spec.initial) → (HaveNoCommonTerm spec.initial spec.forbidden → ⊥) → SettlesItself spec → ⊥
+meets_unsettled are_over spec over meets settles = meets (λ t one other.
+    let is_over = are_over spec.signature spec.initial over t one in
     settles.misses t (record { over = is_over; accepted = one }) (record { over = is_over; accepted = other }))
 
--- where the initial automaton settles the question, it accepts what is reachable, and no such term is forbidden
-pub settled_is_safe : (bytes : List ℕ) (spec : Spec) → SpecText bytes spec → IsSound spec.initial → SettlesItself spec → IsSafe bytes
-settled_is_safe bytes spec text sound settles =
-    let rules = rules_are _ _ spec.rules text.spells.rules in
-    record {
-      spec = spec;
-      text = text;
-      settles = settles;
-      accepted = λ t reachable. closed_accepts_reached spec.initial spec.rules sound rules settles.closed reachable.start t reachable.begins.accepted reachable.leads;
-      safe = accepted_is_safe spec spec.initial (range_with_len 0 spec.initial.next) sound rules settles;
-    }
+module _ (reached : ClosedAcceptsReached) (safe : AcceptedIsSafe) where
+  -- where the initial automaton settles the question, it accepts what is reachable, and no such term is forbidden
+  pub settled_is_safe : (bytes : List ℕ) (spec : Spec) → SpecText bytes spec → IsSound spec.initial → SettlesItself spec → IsSafe bytes
+  settled_is_safe bytes spec text sound settles =
+      let rules = rules_are _ _ spec.rules text.spells.rules in
+      record {
+        spec = spec;
+        text = text;
+        settles = settles;
+        accepted = λ t reachable. reached spec.initial spec.rules sound rules settles.closed reachable.start t reachable.begins.accepted reachable.leads;
+        safe = safe spec spec.initial (range_with_len 0 spec.initial.next) sound rules settles;
+      }
 
--- the verdict on a specification is what its text has
-judged_by : (bytes text : List ℕ) (spec : Spec) → SpecText bytes spec → IsSound spec.initial → (status : Status) → Decides spec text status → Judges bytes text status
-judged_by bytes text spec spelled sound Unreachable (settles, told) = (settled_is_safe bytes spec spelled sound settles, told)
-judged_by bytes text spec spelled sound Undecided (unsettled, told) = (record { spec = spec; text = spelled; unsettled = unsettled }, told)
-judged_by bytes text spec spelled sound BadWords none = absurd none
-judged_by bytes text spec spelled sound BadSpec none = absurd none
-judged_by bytes text spec spelled sound TooLong none = absurd none
-judged_by bytes text spec spelled sound ReadFault none = absurd none
-judged_by bytes text spec spelled sound WriteFault none = absurd none
-judged_by bytes text spec spelled sound Memory none = absurd none
+  -- the verdict on a specification is what its text has
+  judged_by : (bytes text : List ℕ) (spec : Spec) → SpecText bytes spec → IsSound spec.initial → (status : Status) → Decides spec text status → Judges bytes text status
+  judged_by bytes text spec spelled sound Unreachable (settles, told) = (settled_is_safe bytes spec spelled sound settles, told)
+  judged_by bytes text spec spelled sound Undecided (unsettled, told) = (record { spec = spec; text = spelled; unsettled = unsettled }, told)
+  judged_by bytes text spec spelled sound BadWords none = absurd none
+  judged_by bytes text spec spelled sound BadSpec none = absurd none
+  judged_by bytes text spec spelled sound TooLong none = absurd none
+  judged_by bytes text spec spelled sound ReadFault none = absurd none
+  judged_by bytes text spec spelled sound WriteFault none = absurd none
+  judged_by bytes text spec spelled sound Memory none = absurd none
 
--- the same of an answer
-pub judged_of : (bytes : List ℕ) (spec : Spec) → SpecText bytes spec → IsSound spec.initial → (answer : Result (Status × String Global) AllocError) → IfOk answer (λ a. Decides spec (string_bytes a.1) a.0) → IfOk answer (λ a. Judges bytes (string_bytes a.1) a.0)
-judged_of bytes spec spelled sound (Ok a) decides = judged_by bytes (string_bytes a.1) spec spelled sound a.0 decides
-judged_of bytes spec spelled sound (Err e) decides = tt
+  -- the same of an answer
+  pub judged_of : (bytes : List ℕ) (spec : Spec) → SpecText bytes spec → IsSound spec.initial → (answer : Result (Status × String Global) AllocError) → IfOk answer (λ a. Decides spec (string_bytes a.1) a.0) → IfOk answer (λ a. Judges bytes (string_bytes a.1) a.0)
+  judged_of bytes spec spelled sound (Ok a) decides = judged_by bytes (string_bytes a.1) spec spelled sound a.0 decides
+  judged_of bytes spec spelled sound (Err e) decides = tt
 
 -- two specifications of one text settle the question together
-same_settled : (bytes : List ℕ) (a b : Spec) → SpecText bytes a → SpecText bytes b → SettlesItself a → SettlesItself b
-same_settled bytes a b text other settles = subst SettlesItself (one_spec bytes a b text other) settles
+same_settled : OneSpec → (bytes : List ℕ) (a b : Spec) → SpecText bytes a → SpecText bytes b → SettlesItself a → SettlesItself b
+same_settled one bytes a b text other settles = subst SettlesItself (one bytes a b text other) settles
 
 -- what was taken of a file up to its end is what was told of it
 whole : (given left : Option (List ℕ)) (bytes told : List ℕ) → given ≡ Some told → Consumes given left bytes → IsAtEnd left → bytes ≡ told
@@ -102,7 +102,7 @@ as_many count (Some all) (Some rest) told is took =
     let sum : length told ≡ length took.0 + length rest = ap length (sym same ∙ took.1) ∙ length-append took.0 rest in
     omega (arith, sum, took.2)
 
-module _ (words : List Text) (given : Text → Option (List ℕ)) (left : Option (List ℕ)) (name : Text) (is : file_of words ≡ Some name) where
+module _ (one : OneSpec) (words : List Text) (given : Text → Option (List ℕ)) (left : Option (List ℕ)) (name : Text) (is : file_of words ≡ Some name) where
   -- what was told of the file of the words was told of this name
   told : (other : Text) (bytes : List ℕ) → file_of words ≡ Some other → given other ≡ Some bytes → given name ≡ Some bytes
   told other bytes named says =
@@ -140,10 +140,10 @@ module _ (words : List Text) (given : Text → Option (List ℕ)) (left : Option
   answers rose text Unreachable quiet says = judged text Unreachable says
       (λ bytes h none. absurd (none h.0.spec h.0.text))
       (λ bytes spec h spelled settles. refl)
-      (λ bytes spec h spelled open_question. absurd (open_question (same_settled bytes h.0.spec spec h.0.text spelled h.0.settles)))
+      (λ bytes spec h spelled open_question. absurd (open_question (same_settled one bytes h.0.spec spec h.0.text spelled h.0.settles)))
   answers rose text Undecided quiet says = judged text Undecided says
       (λ bytes h none. absurd (none h.0.spec h.0.text))
-      (λ bytes spec h spelled settles. absurd (h.0.unsettled (same_settled bytes spec h.0.spec spelled h.0.text settles)))
+      (λ bytes spec h spelled settles. absurd (h.0.unsettled (same_settled one bytes spec h.0.spec spelled h.0.text settles)))
       (λ bytes spec h spelled open_question. refl)
   answers rose text BadSpec quiet says = judged text BadSpec says
       (λ bytes h none. refl)

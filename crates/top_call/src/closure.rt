@@ -11,6 +11,7 @@ ghost use Rattle.top_call.specs.Closing.{IsClosedFrom};
 
 use ranked_terms::{Config, Pattern, Seq};
 use std::alloc::{AllocError, Global};
+use ta_core::laws::closed_automata_have_no_open_pair;
 use ta_core::{Automaton, StateSet};
 use trs_rules::Rule;
 
@@ -23,7 +24,7 @@ pub(crate) fn is_closed(
     ensures exact { IfOk result (λ yes. IsTrue yes ↔ Closed automaton.now rules.now) }
     ensures sound { IsSound automaton.now }
 {
-    // Its contract says what holds of every automaton.
+    // For the proof: its contract says what holds of every automaton.
     let _ = automaton.states();
     for rule in rules {
         if !is_closed_under(alloc, automaton, rule)? {
@@ -37,6 +38,8 @@ pub(crate) fn is_closed(
 fn is_closed_under(alloc: Global, automaton: &Automaton, rule: &Rule) -> Result<bool, AllocError>
     ensures { IfOk result (λ yes. IsTrue yes ↔ IsClosedUnder automaton.now rule.now) }
 {
+    // For the proof: the assignments are all lists of so many states.
+    closed_automata_have_no_open_pair();
     let variables = rule.vars().len();
     let mut states = Vec::with_capacity(alloc, variables)?;
     is_closed_from(alloc, automaton, rule, &mut states, variables)

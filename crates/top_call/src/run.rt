@@ -15,8 +15,12 @@ use crate::status::Status;
 use crate::words::file_word;
 use std::alloc::{AllocError, Global};
 use ta_core::Spec;
+use ta_core::laws::{
+    accepted_automata_are_safe, accepted_terms_are_over, closed_automata_accept_what_is_reached,
+    contained_automata_keep_runs,
+};
 use tim_io::{ReadError, Shelf, Sink, read_all, write_all};
-use timbuk_reader::{SpecError, read_spec};
+use timbuk_reader::{SpecError, no_text_has_two_specs, read_spec};
 
 /// The largest number of bytes of a specification.
 const MAX_SPEC: usize = 1048576;
@@ -30,6 +34,9 @@ const USAGE: &str =
 fn settles_itself(alloc: Global, spec: &Spec) -> Result<bool, AllocError>
     ensures { IfOk result (λ yes. IsTrue yes ↔ SettlesItself spec.now) }
 {
+    // For the proof: what the initial automaton accepts is over the signature, and it contains itself.
+    accepted_terms_are_over();
+    contained_automata_keep_runs();
     if !have_no_common_term(alloc, &spec.initial, &spec.forbidden)? {
         return Ok(false);
     }
@@ -42,7 +49,7 @@ fn verdict(alloc: Global, spec: &Spec) -> Result<(Status, String), AllocError>
     ensures exact { IfOk result (λ a. Decides spec.now (string_bytes a.1) a.0) }
     ensures sound { IsSound spec.now.initial }
 {
-    // Its contract says what holds of every automaton.
+    // For the proof: its contract says what holds of every automaton.
     let _ = spec.initial.states();
     if settles_itself(alloc, spec)? {
         let line = String::from_str(alloc, "Verdict unreachable\n")?;
@@ -59,6 +66,9 @@ fn judge(alloc: Global, bytes: &[u8]) -> Result<(Status, String), AllocError>
     requires { length bytes.now ≤ 1048576 }
     ensures { IfOk result (λ a. Judges bytes.now (string_bytes a.1) a.0) }
 {
+    // For the proof: a closed automaton accepts what is reached, and where it is accepted no such term is forbidden.
+    closed_automata_accept_what_is_reached();
+    accepted_automata_are_safe();
     match read_spec(alloc, bytes) {
         Ok(spec) => verdict(alloc, &spec),
         Err(SpecError::Fault(fault)) => Ok((Status::BadSpec, fault_line(alloc, fault)?)),
@@ -86,7 +96,7 @@ fn answer<F: Shelf>(
 ) -> Result<(Status, String), AllocError>
     ensures says { IfOk result (λ a.
         Says name.now (F.left shelf.old name.now) (F.left shelf.new name.now)
-            (Rose (F.faults shelf.old name.now) (F.faults shelf.new name.now)) (string_bytes a.1) a.0) }
+        (Rose (F.faults shelf.old name.now) (F.faults shelf.new name.now)) (string_bytes a.1) a.0) }
     ensures took { OnErr result (TookAtMost 1048577 (F.left shelf.old name.now) (F.left shelf.new name.now)) }
     ensures others { OthersStay (F.left shelf.old) (F.left shelf.new) name.now }
     ensures other_faults { OthersStay (F.faults shelf.old) (F.faults shelf.new) name.now }
@@ -122,7 +132,7 @@ pub fn run<F: Shelf, K: Sink>(alloc: Global, words: &[String], shelf: &mut F, ou
 
     // Where no count rose, the words and the contents of the file name the answer.
     ensures complete { ((name : List ℕ) → file_of (map string_bytes words.now) ≡ Some name →
-            ¬ Rose (F.faults shelf.old name) (F.faults shelf.new name))
+        ¬ Rose (F.faults shelf.old name) (F.faults shelf.new name))
         → ¬ Rose (K.faults out.old) (K.faults out.new)
         → Answers (map string_bytes words.now) (F.left shelf.old) result }
 
@@ -130,6 +140,8 @@ pub fn run<F: Shelf, K: Sink>(alloc: Global, words: &[String], shelf: &mut F, ou
     ensures others { (name : List ℕ) → file_of (map string_bytes words.now) ≢ Some name →
         (F.left shelf.new name ≡ F.left shelf.old name) × (F.faults shelf.new name ≡ F.faults shelf.old name) }
 {
+    // For the proof: the bytes of a file name one answer.
+    no_text_has_two_specs();
     let Some(name) = file_word(words) else {
         return match write_all(out, USAGE.as_bytes()) {
             Ok(()) => Status::BadWords,
