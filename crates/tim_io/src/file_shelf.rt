@@ -1,8 +1,7 @@
 //! The real files.
-ghost use Rattle.std.specs.Prelude.{◌≡◌, ℕ, ◌<◌, ◌≤◌, List, Ok, IfOk, IfErr, IsErrOf, IsSome, OnErr, OnOk, length, option_and_then};
-ghost use Rattle.std.specs.Io.KnownBytes.{ReadConsumes};
+ghost use Rattle.std.specs.Prelude.{◌≡◌, ℕ, ◌<◌, ◌≤◌, List, Ok, IfOk, IfErr, IsErrOf, OnErr, OnOk, length};
 ghost use Rattle.tim_io.specs.Causes.{one_more, Rose};
-ghost use Rattle.tim_io.specs.FileShelf.{untold, faults_in, file_in, left_in};
+ghost use Rattle.tim_io.specs.FileShelf.{untold, faults_in, file_in, ReadsOn};
 ghost use Rattle.tim_io.specs.Shelves.{Takes, OthersStay};
 
 use crate::shelf::{Shelf, TakeError};
@@ -24,9 +23,7 @@ impl<F: Read + Drop> Opened<F> {
     /// Reads on, and opens the file where it is not open yet.
     fn read<R: Files<File = F>>(&mut self, rt: &R, name: &str, buf: &mut [u8]) -> io::Result<usize>
         ensures bound { IfOk result (λ n. n ≤ length buf.new) }
-        ensures open { OnOk result (IsSome self.new.file) }
-        ensures reads { ReadConsumes (option_and_then F.remaining self.old.file)
-            (option_and_then F.remaining self.new.file) result buf.new }
+        ensures reads { ReadsOn F.remaining self.old.file self.new.file result buf.new }
         ensures faults { self.new.faults ≡ self.old.faults }
     {
         let mut file = match self.file.take() {
@@ -46,10 +43,7 @@ impl<F: Read + Drop> Opened<F> {
         buf: &mut [u8],
     ) -> Result<usize, TakeError>
         ensures bound { IfOk result (λ n. n ≤ length buf.new) }
-        // The file is open at `Ok`, and the answer is then what its own reads give.
-        ensures open { OnOk result (IsSome self.new.file) }
-        ensures reads { ReadConsumes (option_and_then F.remaining self.old.file)
-            (option_and_then F.remaining self.new.file) result buf.new }
+        ensures reads { ReadsOn F.remaining self.old.file self.new.file result buf.new }
         ensures later { self.old.faults ≤ self.new.faults }
         ensures failed { IfErr result (λ error. error ≡ TakeError.Failed) }
         ensures fault { OnErr result (self.new.faults ≡ one_more self.old.faults) }
@@ -100,11 +94,10 @@ impl<R: Files> Shelf for FileShelf<'_, R> {
             Rose (faults_in self.old.files name.now) (faults_in self.new.files name.now) }
         ensures other_faults { OthersStay (faults_in self.old.files) (faults_in self.new.files) name.now }
 
-        // Beside the trait's clauses, for the files of any runtime: at `Ok` the file is open, and where its own type tells
-        // what is left of it, the answer is what its reads gave. So a read that failed is never answered as the end.
-        ensures open { 0 < length buf.new → OnOk result (IsSome (file_in self.new.files name.now)) }
-        ensures reads { ReadConsumes (left_in ⟦<R::File as Read>⟧.remaining self.old.files name.now)
-            (left_in ⟦<R::File as Read>⟧.remaining self.new.files name.now) result buf.new }
+        // Beside the trait's clauses, for the files of any runtime: the answer is what the file's own reads gave, as far as
+        // its type tells what it has left. So a call that failed is never answered as the end.
+        ensures reads { 0 < length buf.new → ReadsOn ⟦<R::File as Read>⟧.remaining
+            (file_in self.old.files name.now) (file_in self.new.files name.now) result buf.new }
         ensures other_files { OthersStay (file_in self.old.files) (file_in self.new.files) name.now }
         ensures fault { IsErrOf result TakeError.Failed →
             faults_in self.new.files name.now ≡ one_more (faults_in self.old.files name.now) }

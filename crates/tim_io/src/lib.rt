@@ -28,8 +28,5 @@ pub use mem_shelf::MemShelf;
 pub use mem_sink::MemSink;
 pub use shelf::{Shelf, TakeError};
 pub use sink::{Failed, Sink};
-pub use std_sink::StdSink;
+pub use std_sink::{StdSink, WriterSink};
 pub use whole::{ReadError, read_all, write_all};
-
-#[cfg(test)]
-mod tests;
