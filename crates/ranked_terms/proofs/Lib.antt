@@ -1,6 +1,3 @@
 pub mod SignatureLaws
 mod SignatureLemmas
-pub mod TermLaws
-pub mod InstanceLaws
-pub mod VariableLaws
-pub mod Listings
+pub mod SizeLaws

@@ -2,7 +2,7 @@
 -- Tong, JAR 2004, where an open pair is a critical pair that isn't joined; the order of the pairs is this project's own).
 use Rattle.std.specs.Prelude.{◌≡◌, ℕ, zero, suc, ◌+◌, ◌==◌, List, [], ◌∷◌, ◌++◌, Some, map, length, slice_index, All, Contains}
 use Rattle.std.specs.List.{slice_get, position_or_len, flat_map}
-use Rattle.ranked_terms.specs.Listings.{IsFirst}
+use Rattle.list_laws.specs.Listings.{IsFirst}
 use Rattle.ranked_terms.specs.Terms.{assigned}
 use Rattle.ranked_terms.specs.declared.term.Pattern.{Pattern}
 use Rattle.ranked_terms.specs.declared.term.Config.{Config}
@@ -61,9 +61,13 @@ abbrev pub assignments : List ℕ → ℕ → List (List ℕ)
 assignments states zero = [] ∷ []
 assignments states (suc n) = flat_map (λ q. map (λ rest. q ∷ rest) (assignments states n)) states
 
+-- the pair of a rule's number, an assignment and a state
+abbrev pub pair_of : ℕ → List ℕ → ℕ → Pair
+pair_of i σ q = record { rule = i; sigma = σ; state = q }
+
 -- the triples of one rule: by assignment, and then by state
 abbrev pub triples_of_rule : TreeAutomaton → ℕ → RewriteRule → List Pair
-triples_of_rule A i rule = flat_map (λ σ. map (λ q. record { rule = i; sigma = σ; state = q }) A.states) (assignments A.states (length rule.vars))
+triples_of_rule A i rule = flat_map (λ σ. map (λ q. pair_of i σ q) A.states) (assignments A.states (length rule.vars))
 
 -- the triples of rules that are numbered from i on: by rule, by assignment, and then by state
 abbrev pub triples_from : TreeAutomaton → ℕ → List RewriteRule → List Pair

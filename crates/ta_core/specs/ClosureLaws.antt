@@ -4,7 +4,7 @@ use Rattle.std.specs.List.Sorted.{IsStrictlySortedBy}
 use Rattle.std.specs.declared.cmp.Ordering.{Ordering}
 use Rattle.std.specs.Ordering.{nat_cmp, ordering_then}
 use Rattle.std.specs.Cmp.Lexicographic.{slice_cmp}
-use Rattle.ranked_terms.specs.Listings.{IsListing, IsFront, HasMoreThan}
+use Rattle.list_laws.specs.Listings.{IsListing, IsFront, HasMoreThan}
 use Rattle.ranked_terms.specs.Terms.{instance_of, assigned, config_of, occurrences}
 use Rattle.ranked_terms.specs.declared.term.Term.{Term}
 use Rattle.ranked_terms.specs.declared.term.Pattern.{Pattern}

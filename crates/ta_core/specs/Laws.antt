@@ -2,7 +2,7 @@
 use Rattle.std.specs.Prelude.{◌⊎◌, ◌↔◌, ℕ, List, []}
 use Rattle.std.specs.List.{Contains, AllZip}
 use Rattle.std.specs.Ordering.{nat_cmp}
-use Rattle.ranked_terms.specs.Listings.{IsListing}
+use Rattle.list_laws.specs.Listings.{IsListing}
 use Rattle.ranked_terms.specs.Names.{Symbol}
 use Rattle.ranked_terms.specs.declared.term.Term.{Term}
 use Rattle.ranked_terms.specs.declared.term.Config.{Config, State, App}

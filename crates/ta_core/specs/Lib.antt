@@ -10,3 +10,5 @@ pub mod ClosureLaws
 pub mod Reached
 pub mod Acceptance
 pub mod AcceptanceLaws
+pub mod Meeting
+pub mod lemmas

@@ -3,7 +3,7 @@ ghost use Rattle.std.specs.Prelude.{◌≡◌, ◌≢◌, ◌<◌, ◌≤◌, �
 ghost use Rattle.std.specs.Ordering.{nat_cmp};
 ghost use Rattle.std.specs.List.Sorted.{IsStrictlySortedBy};
 ghost use Rattle.std.specs.BTreeSet.{insert_key};
-ghost use Rattle.ta_core.specs.Orders.{IsUnion};
+ghost use Rattle.list_laws.specs.Lists.{IsUnion};
 ghost use Rattle.ta_core.specs.TreeAutomaton.{IsSound, IsTransOf, IsEpsOf, bare, trans_of, trans_cmp, pair_cmp};
 
 use crate::args::Args;
@@ -106,6 +106,20 @@ impl Automaton {
             finals: self.finals.copy(self.alloc)?,
             trans: self.trans.copy(self.alloc)?,
             eps: self.eps.copy(self.alloc)?,
+        })
+    }
+
+    /// The same automaton without its epsilon transitions. The only error is want of memory.
+    pub fn without_eps(&self) -> Result<Automaton, AllocError>
+        ensures { IfOk result (λ plain. plain ≡ record self.now { eps = [] }) }
+    {
+        Ok(Automaton {
+            alloc: self.alloc,
+            states: self.states.copy(self.alloc)?,
+            next: self.next,
+            finals: self.finals.copy(self.alloc)?,
+            trans: self.trans.copy(self.alloc)?,
+            eps: Sorted::new(self.alloc),
         })
     }
 

@@ -5,6 +5,7 @@
 #![tactic(auto)]
 
 mod args;
+mod assignment;
 mod automaton;
 pub mod laws;
 mod lookup;
@@ -19,6 +20,7 @@ mod state_set;
 mod trans;
 
 pub use args::Args;
+pub use assignment::assign;
 pub use automaton::{Automaton, MAX_STATES, StateError};
 pub use map::Map;
 pub use options::Options;

@@ -74,6 +74,16 @@ impl Reached {
         Ok(())
     }
 
+    /// Adds these states as the last, without those that are members.
+    pub(crate) fn add_all(&mut self, states: &[u32]) -> Result<(), AllocError>
+        ensures { OnOk result ((q : ℕ) → Contains self.new q ↔ (Contains self.old q ⊎ Contains states.now q)) }
+    {
+        for state in states {
+            self.add(*state)?;
+        }
+        Ok(())
+    }
+
     /// The set of whatever the epsilon transitions lead to from its members, in any number of steps. Each state is taken
     /// once. The only error is want of memory.
     pub(crate) fn closed(mut self, automaton: &Automaton) -> Result<Reached, AllocError>

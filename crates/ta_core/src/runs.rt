@@ -5,7 +5,7 @@ ghost use Rattle.ranked_terms.specs.Terms.{config_of};
 ghost use Rattle.ranked_terms.specs.declared.term.Config.{State};
 ghost use Rattle.ta_core.specs.Runs.{Runs};
 ghost use Rattle.ta_core.specs.Languages.{Accepts};
-ghost use Rattle.ta_core.specs.Reached.{HasTransInto, EntersAndReaches};
+ghost use Rattle.ta_core.specs.Reached.{ReachedFrom, HasTransInto, EntersAndReaches};
 
 use crate::automaton::Automaton;
 use crate::reached::Reached;
@@ -37,6 +37,18 @@ impl Automaton {
     {
         let reached = self.reached_from(state)?;
         reached.to_set()
+    }
+
+    /// The states to which epsilon transitions lead from the members of the set, in any number of steps. The only error is
+    /// want of memory.
+    pub fn closure_of(&self, set: &StateSet) -> Result<StateSet, AllocError>
+        requires { All (Contains self.now.states) set.now }
+        ensures { IfOk result (λ all. (q : ℕ) → Contains all q ↔ ReachedFrom self.now set.now q) }
+    {
+        let mut reached = Reached::new(self.alloc());
+        reached.add_all(set.as_slice())?;
+        let closed = reached.closed(self)?;
+        closed.to_set()
     }
 
     // The states to which the configuration runs, by one way over it.

@@ -4,7 +4,7 @@ ghost use Rattle.std.specs.List.{Contains};
 ghost use Rattle.std.specs.List.Sorted.{IsStrictlySortedBy};
 ghost use Rattle.std.specs.BTreeSet.{insert_key};
 ghost use Rattle.std.specs.declared.cmp.Ordering.TheVariants.{Equal};
-ghost use Rattle.ta_core.specs.Orders.{has, IsUnion};
+ghost use Rattle.list_laws.specs.Lists.{has, IsUnion};
 
 use std::alloc::{AllocError, Global};
 use std::marker::Model;

@@ -32,7 +32,7 @@ impl StateSet {
     }
 
     /// The set of these states, in any order and as often as they stand there. The only error is want of memory.
-    pub(crate) fn from_states(alloc: Global, items: Vec<u32>) -> Result<StateSet, AllocError>
+    pub fn from_states(alloc: Global, items: Vec<u32>) -> Result<StateSet, AllocError>
         ensures { IfOk result (λ set. (q : ℕ) → Contains set q ↔ Contains items.items q) }
     {
         let mut states = Sorted::new(alloc);

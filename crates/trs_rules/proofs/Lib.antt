@@ -1,5 +1,3 @@
-pub mod ListLaws
-pub mod TermLaws
 pub mod StepLaws
 pub mod OverLaws
 pub mod VariableLaws

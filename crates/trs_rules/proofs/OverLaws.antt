@@ -1,6 +1,6 @@
 -- Rules over a signature keep terms over it.
 use Rattle.std.proofs.Common.{◌≡◌, ℕ, zero, suc, ◌-◌, ◌<◌, Bool, true, false, ◌&&◌, IsTrue, List, [], ◌∷◌, ◌++◌, map, length, get_or, slice_get, Some, refl, sym, subst, arith, length-append}
-use Rattle.std.specs.List.{All, Contains, list_all}
+use Rattle.std.specs.List.{All, AllByRecursion, Contains, list_all}
 use Rattle.std.proofs.lemmas.List.{length-map}
 use Rattle.std.proofs.lemmas.Option.{slice_get_within, get_or_from_slice_get}
 use Rattle.ranked_terms.specs.Names.{Symbol}
@@ -11,7 +11,7 @@ use Rattle.ranked_terms.specs.declared.term.Pattern.TheVariants.{Var, App}
 use Rattle.trs_rules.specs.Rules.{RewriteRule}
 use Rattle.trs_rules.specs.Steps.{RootStep, Step, at_root, inside, Chain, more}
 use Rattle.trs_rules.specs.Laws.{IsRuleOver, StepsStayOver, ChainsStayOver}
-use Rattle.trs_rules.proofs.TermLaws.{Each, pattern_induction, occurrences_var, occurrences_app, instance_var, instance_app, over_app, over_node}
+use Rattle.ranked_terms.specs.lemmas.TermLaws.{pattern_induction, occurrences_var, occurrences_app, instance_var, instance_app, over_app, over_node}
 
 -- ---- tests of a list
 
@@ -29,24 +29,24 @@ both false b h k = h
 
 -- ---- elements
 
-Each-append : {A : Type 0} (P : A → Type 0) (xs ys : List A) → Each P xs → Each P ys → Each P (xs ++ ys)
+Each-append : {A : Type 0} (P : A → Type 0) (xs ys : List A) → AllByRecursion P xs → AllByRecursion P ys → AllByRecursion P (xs ++ ys)
 Each-append P [] ys h k = k
 Each-append P (x ∷ xs) ys h k = (h.0, Each-append P xs ys h.1 k)
 
-Each-left : {A : Type 0} (P : A → Type 0) (xs ys : List A) → Each P (xs ++ ys) → Each P xs
+Each-left : {A : Type 0} (P : A → Type 0) (xs ys : List A) → AllByRecursion P (xs ++ ys) → AllByRecursion P xs
 Each-left P [] ys h = tt
 Each-left P (x ∷ xs) ys h = (h.0, Each-left P xs ys h.1)
 
-Each-right : {A : Type 0} (P : A → Type 0) (xs ys : List A) → Each P (xs ++ ys) → Each P ys
+Each-right : {A : Type 0} (P : A → Type 0) (xs ys : List A) → AllByRecursion P (xs ++ ys) → AllByRecursion P ys
 Each-right P [] ys h = h
 Each-right P (x ∷ xs) ys h = Each-right P xs ys h.1
 
-pub Each-at : {A : Type 0} (P : A → Type 0) (xs : List A) (k : ℕ) (x : A) → k < length xs → get_or xs k x ≡ x → Each P xs → P x
+pub Each-at : {A : Type 0} (P : A → Type 0) (xs : List A) (k : ℕ) (x : A) → k < length xs → get_or xs k x ≡ x → AllByRecursion P xs → P x
 Each-at P [] k x lt e h = absurd (omega arith)
 Each-at P (y ∷ xs) zero x lt e h = subst P e h.0
 Each-at P (y ∷ xs) (suc k) x lt e h = Each-at P xs k x (omega arith) e h.1
 
-pub Each-from : {A : Type 0} (P : A → Type 0) (xs : List A) → ((x : A) → Contains xs x → P x) → Each P xs
+pub Each-from : {A : Type 0} (P : A → Type 0) (xs : List A) → ((x : A) → Contains xs x → P x) → AllByRecursion P xs
 Each-from P [] h = tt
 Each-from P (x ∷ xs) h = (h x (0, omega arith, refl), Each-from P xs (λ y c. h y (suc c.0, omega (arith, c.1), c.2)))
 
@@ -57,40 +57,40 @@ IsOverAt signature θ v = IsTrue (is_over signature (θ v))
 
 module _ (signature : List Symbol) (θ : ℕ → Term) where
   abbrev Binds : Pattern → Type 0
-  Binds p = IsTrue (is_over signature (instance_of θ p)) → Each (IsOverAt signature θ) (occurrences p)
+  Binds p = IsTrue (is_over signature (instance_of θ p)) → AllByRecursion (IsOverAt signature θ) (occurrences p)
 
   binds_var : (v : ℕ) → Binds (Var v)
   binds_var v h =
       let k : IsOverAt signature θ v = subst (λ t. IsTrue (is_over signature t)) (instance_var θ v) h in
-      subst (Each (IsOverAt signature θ)) (sym (occurrences_var v)) (k, tt)
+      subst (AllByRecursion (IsOverAt signature θ)) (sym (occurrences_var v)) (k, tt)
 
-  binds_all : (ps : List Pattern) → Each Binds ps → IsTrue (list_all (λ b. b) (map (is_over signature) (map (instance_of θ) ps))) → Each (IsOverAt signature θ) (joined (map occurrences ps))
+  binds_all : (ps : List Pattern) → AllByRecursion Binds ps → IsTrue (list_all (λ b. b) (map (is_over signature) (map (instance_of θ) ps))) → AllByRecursion (IsOverAt signature θ) (joined (map occurrences ps))
   binds_all [] hs k = tt
   binds_all (p ∷ ps) hs k =
       let a = is_over signature (instance_of θ p) in
       let b = list_all (λ b. b) (map (is_over signature) (map (instance_of θ) ps)) in
       Each-append (IsOverAt signature θ) (occurrences p) (joined (map occurrences ps)) (hs.0 (both_left a b k)) (binds_all ps hs.1 (both_right a b k))
 
-  binds_app : (f : ℕ) (ps : List Pattern) → Each Binds ps → Binds (App f ps)
+  binds_app : (f : ℕ) (ps : List Pattern) → AllByRecursion Binds ps → Binds (App f ps)
   binds_app f ps hs k =
       let ts = map (instance_of θ) ps in
       let h : IsTrue (is_symbol signature f (length ts) && list_all (λ b. b) (map (is_over signature) ts)) =
       subst IsTrue (over_node signature f ts) (subst (λ t. IsTrue (is_over signature t)) (instance_app θ f ps) k) in
-      subst (Each (IsOverAt signature θ)) (sym (occurrences_app f ps)) (binds_all ps hs (both_right (is_symbol signature f (length ts)) (list_all (λ b. b) (map (is_over signature) ts)) h))
+      subst (AllByRecursion (IsOverAt signature θ)) (sym (occurrences_app f ps)) (binds_all ps hs (both_right (is_symbol signature f (length ts)) (list_all (λ b. b) (map (is_over signature) ts)) h))
 
   -- what an instance over the signature binds is over it
   pub instance_binds : (p : Pattern) → Binds p
   instance_binds = pattern_induction Binds binds_var binds_app
 
   abbrev Builds : Pattern → Type 0
-  Builds p = IsTrue (pattern_is_over signature p) → Each (IsOverAt signature θ) (occurrences p) → IsTrue (is_over signature (instance_of θ p))
+  Builds p = IsTrue (pattern_is_over signature p) → AllByRecursion (IsOverAt signature θ) (occurrences p) → IsTrue (is_over signature (instance_of θ p))
 
   builds_var : (v : ℕ) → Builds (Var v)
   builds_var v o h =
-      let k : Each (IsOverAt signature θ) (v ∷ []) = subst (Each (IsOverAt signature θ)) (occurrences_var v) h in
+      let k : AllByRecursion (IsOverAt signature θ) (v ∷ []) = subst (AllByRecursion (IsOverAt signature θ)) (occurrences_var v) h in
       subst (λ t. IsTrue (is_over signature t)) (sym (instance_var θ v)) k.0
 
-  builds_all : (ps : List Pattern) → Each Builds ps → IsTrue (list_all (λ b. b) (map (pattern_is_over signature) ps)) → Each (IsOverAt signature θ) (joined (map occurrences ps)) →
+  builds_all : (ps : List Pattern) → AllByRecursion Builds ps → IsTrue (list_all (λ b. b) (map (pattern_is_over signature) ps)) → AllByRecursion (IsOverAt signature θ) (joined (map occurrences ps)) →
       IsTrue (list_all (λ b. b) (map (is_over signature) (map (instance_of θ) ps)))
   builds_all [] hs o k = refl
   builds_all (p ∷ ps) hs o k =
@@ -100,14 +100,14 @@ module _ (signature : List Symbol) (θ : ℕ → Term) where
       (hs.0 (both_left a b o) (Each-left (IsOverAt signature θ) (occurrences p) (joined (map occurrences ps)) k))
       (builds_all ps hs.1 (both_right a b o) (Each-right (IsOverAt signature θ) (occurrences p) (joined (map occurrences ps)) k))
 
-  builds_app : (f : ℕ) (ps : List Pattern) → Each Builds ps → Builds (App f ps)
+  builds_app : (f : ℕ) (ps : List Pattern) → AllByRecursion Builds ps → Builds (App f ps)
   builds_app f ps hs o k =
       let ts = map (instance_of θ) ps in
       let a = is_symbol signature f (length ps) in
       let b = list_all (λ b. b) (map (pattern_is_over signature) ps) in
       let h : IsTrue (a && b) = subst IsTrue (over_app signature f ps) o in
       let s : IsTrue (is_symbol signature f (length ts)) = subst (λ n. IsTrue (is_symbol signature f n)) (sym (length-map ps (instance_of θ))) (both_left a b h) in
-      let all = builds_all ps hs (both_right a b h) (subst (Each (IsOverAt signature θ)) (occurrences_app f ps) k) in
+      let all = builds_all ps hs (both_right a b h) (subst (AllByRecursion (IsOverAt signature θ)) (occurrences_app f ps) k) in
       subst (λ t. IsTrue (is_over signature t)) (sym (instance_app θ f ps))
       (subst IsTrue (sym (over_node signature f ts)) (both (is_symbol signature f (length ts)) (list_all (λ b. b) (map (is_over signature) ts)) s all))
 
@@ -125,8 +125,8 @@ root_over : (signature : List Symbol) (R : List RewriteRule) (i : ℕ) (s t : Te
 root_over signature R i s t all over h =
     let r : IsRuleOver signature h.rule = rule_over signature R i h.rule h.is_rule all in
     let P : ℕ → Type 0 = IsOverAt signature h.θ in
-    let left : Each P (occurrences h.rule.left) = instance_binds signature h.θ h.rule.left (subst (λ x. IsTrue (is_over signature x)) h.from over) in
-    let right : Each P (occurrences h.rule.right) = Each-from P (occurrences h.rule.right) (λ v c. let d = r.is_rule.right_is_bound v c in Each-at P (occurrences h.rule.left) d.0 v d.1 d.2 left) in
+    let left : AllByRecursion P (occurrences h.rule.left) = instance_binds signature h.θ h.rule.left (subst (λ x. IsTrue (is_over signature x)) h.from over) in
+    let right : AllByRecursion P (occurrences h.rule.right) = Each-from P (occurrences h.rule.right) (λ v c. let d = r.is_rule.right_is_bound v c in Each-at P (occurrences h.rule.left) d.0 v d.1 d.2 left) in
     subst (λ x. IsTrue (is_over signature x)) (sym h.to) (instance_builds signature h.θ h.rule.right r.right_is_over right)
 
 -- one argument among others
@@ -157,7 +157,7 @@ step_over signature R all (inside {u = u} {v = v} f before after h) over =
 pub steps_stay_over : StepsStayOver
 steps_stay_over signature R s t all over h = step_over signature R all h over
 
-chain_over : (signature : List Symbol) (R : List RewriteRule) → All (IsRuleOver signature) R → (x : Term) (ts : List Term) → Chain R (x ∷ ts) → IsTrue (is_over signature x) → Each (λ t. IsTrue (is_over signature t)) (x ∷ ts)
+chain_over : (signature : List Symbol) (R : List RewriteRule) → All (IsRuleOver signature) R → (x : Term) (ts : List Term) → Chain R (x ∷ ts) → IsTrue (is_over signature x) → AllByRecursion (λ t. IsTrue (is_over signature t)) (x ∷ ts)
 chain_over signature R all x [] c over = (over, tt)
 chain_over signature R all x (y ∷ ts) (more h c) over = (over, chain_over signature R all y ts c (step_over signature R all h over))
 

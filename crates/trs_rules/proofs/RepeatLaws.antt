@@ -5,25 +5,18 @@ use Rattle.std.proofs.lemmas.Bool.{eqb-true, eq-eqb}
 use Rattle.std.proofs.lemmas.Cmp.{nat_eq_equiv}
 use Rattle.std.proofs.lemmas.List.{take_more, take_all, take-append-drop}
 use Rattle.std.proofs.lemmas.Option.{slice_get-get_or}
+use Rattle.list_laws.proofs.Tests.{neither, if_none, if_true, if_false}
 use Rattle.ranked_terms.specs.Terms.{joined, occurrences}
 use Rattle.ranked_terms.specs.declared.term.Pattern.{Pattern}
 use Rattle.trs_rules.specs.Variables.{is_in, repeat_after, first_repeat, IsSeen}
-use Rattle.trs_rules.proofs.ListLaws.{last_append, cut_last}
-use Rattle.trs_rules.proofs.VariableLaws.{if_true, if_false, args_more}
+use Rattle.list_laws.proofs.Ends.{last_append, cut_last}
+use Rattle.trs_rules.proofs.VariableLaws.{args_more}
 
 -- ---- tests
-
-pub if_none : (b : Bool) (x : ℕ) (o : Option ℕ) → (if b then Some x else o) ≡ None → (b ≡ false) × (o ≡ None)
-if_none true x o h = cc
-if_none false x o h = (refl, h)
 
 if_some : (b : Bool) (x v : ℕ) (o p : Option ℕ) → (o ≡ Some v → p ≡ Some v) → (if b then Some x else o) ≡ Some v → (if b then Some x else p) ≡ Some v
 if_some true x v o p k h = h
 if_some false x v o p k h = k h
-
-pub neither : (a b : Bool) → (a || b) ≡ false → (a ≡ false) × (b ≡ false)
-neither true b h = cc
-neither false b h = (refl, h)
 
 flip : (a b : ℕ) (r : Bool) → (a == b) ≡ r → (b == a) ≡ r
 flip a b r h = nat_eq_equiv.symm b a ∙ h

@@ -4,7 +4,7 @@ use Rattle.ranked_terms.specs.Terms.{node}
 use Rattle.ranked_terms.specs.declared.term.Term.{Term}
 use Rattle.trs_rules.specs.Rules.{RewriteRule}
 use Rattle.trs_rules.specs.Steps.{Step, at_root, inside, Chain, one, more, Leads}
-use Rattle.trs_rules.proofs.ListLaws.{last_append, cut_last, first_append}
+use Rattle.list_laws.proofs.Ends.{last_append, cut_last, first_append}
 use Rattle.trs_rules.specs.Laws.{PlacedStepsAreSteps, SomeStepAt, StepsArePlaced, ChainsAreTheirSteps, ChainsAppend, LeadsToItself, StepsLead, LeadsAreTransitive, MoreRulesKeepSteps}
 
 -- ---- steps

@@ -5,17 +5,16 @@ use Rattle.std.specs.Option.{option_or}
 use Rattle.std.proofs.lemmas.List.{drop_more, drop_all}
 use Rattle.std.proofs.lemmas.List.Folds.{find-append}
 use Rattle.std.proofs.lemmas.List.Sums.{fold-append}
+use Rattle.list_laws.proofs.Tests.{if_true, if_false}
 use Rattle.ranked_terms.specs.Terms.{firsts, joined, occurrences, with_variable}
 use Rattle.ranked_terms.specs.declared.term.Pattern.{Pattern}
-use Rattle.trs_rules.proofs.TermLaws.{occurrences_var, occurrences_app}
+use Rattle.ranked_terms.specs.declared.term.Pattern.TheVariants.{App}
+use Rattle.ranked_terms.specs.lemmas.TermLaws.{occurrences_var, occurrences_app}
 
-pub if_true : {A : Type 0} (b : Bool) (x y : A) → b ≡ true → (if b then x else y) ≡ x
-if_true true x y h = refl
-if_true false x y h = cc
+-- ---- the arguments
 
-pub if_false : {A : Type 0} (b : Bool) (x y : A) → b ≡ false → (if b then x else y) ≡ y
-if_false true x y h = cc
-if_false false x y h = refl
+pub occurrences_args : (p : Pattern) (f : ℕ) (ps items : List Pattern) → p ≡ App f ps → items ≡ ps → occurrences p ≡ joined (map occurrences items)
+occurrences_args p f ps items e is = ap occurrences e ∙ (occurrences_app f ps ∙ ap (λ qs. joined (map occurrences qs)) (sym is))
 
 -- ---- one argument more
 

@@ -2,3 +2,4 @@ pub mod Rules
 pub mod Variables
 pub mod Steps
 pub mod Laws
+pub mod lemmas

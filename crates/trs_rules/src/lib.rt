@@ -19,4 +19,4 @@ pub use entry::Entry;
 pub use equation::Equation;
 pub use rule::{Rule, RuleFault, each_is_rule};
 pub use sigma::{Pair, Sigma};
-pub use variables::TooManyVariables;
+pub use variables::{TooManyVariables, Variables};

@@ -12,7 +12,7 @@ pub struct TooManyVariables;
 
 /// A list of at most 16 variables, which stands in the value itself.
 #[derive(Debug, Drop)]
-pub(crate) struct Variables {
+pub struct Variables {
     slots: [u32; 16],
     len: usize,
 }

@@ -1,5 +1,5 @@
-use Rattle.ranked_terms.proofs.InstanceLaws.{instance_of-agree, assigned-agree, instance_of-over}
-use Rattle.ranked_terms.proofs.VariableLaws.{variables_of-distinct, variables_of-occurs, occurrences-in_variables_of, firsts-cons}
+use Rattle.ranked_terms.specs.lemmas.InstanceLaws.{instance_of-agree, assigned-agree, instance_of-over}
+use Rattle.ranked_terms.specs.lemmas.VariableLaws.{variables_of-distinct, variables_of-occurs, occurrences-in_variables_of, firsts-cons}
 use Rattle.ranked_terms.proofs.laws.of_patterns.Goals as goal
 
 pub returns-clause-instances : goal.returns-clause-instances

@@ -1,5 +1,5 @@
-use Rattle.ranked_terms.proofs.TermLaws.{size_node, config_of-injective}
-use Rattle.ranked_terms.proofs.InstanceLaws.{height_of-le, is_over-kept}
+use Rattle.ranked_terms.specs.lemmas.TermLaws.{size_node, config_of-injective}
+use Rattle.ranked_terms.proofs.SizeLaws.{height_of-le, is_over-kept}
 use Rattle.ranked_terms.proofs.laws.of_terms.Goals as goal
 
 pub returns-clause-sizes : goal.returns-clause-sizes

@@ -1,4 +1,4 @@
-use Rattle.ta_core.proofs.Closure.{closed_keeps_runs, closed_accepts_reached}
+use Rattle.ta_core.proofs.closure.Closure.{closed_keeps_runs, closed_accepts_reached}
 use Rattle.ta_core.proofs.laws.closed_automata_accept_what_is_reached.Goals as goal
 
 pub returns-clause-runs : goal.returns-clause-runs

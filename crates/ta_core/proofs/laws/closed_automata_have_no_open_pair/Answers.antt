@@ -1,6 +1,6 @@
-use Rattle.ta_core.proofs.Closure.{closed_by_lists}
-use Rattle.ta_core.proofs.OpenPairs.{closed_has_no_open_pair, open_pairs_are_one, triples_are_all}
-use Rattle.ta_core.proofs.Ascending.{triples_ascend}
+use Rattle.ta_core.proofs.closure.Closure.{closed_by_lists}
+use Rattle.ta_core.proofs.closure.OpenPairs.{closed_has_no_open_pair, open_pairs_are_one, triples_are_all}
+use Rattle.ta_core.proofs.closure.Ascending.{triples_ascend}
 use Rattle.ta_core.proofs.laws.closed_automata_have_no_open_pair.Goals as goal
 
 pub returns-clause-none : goal.returns-clause-none

@@ -1,4 +1,4 @@
-use Rattle.ta_core.proofs.Containment.{contained_keeps_runs, contained_keeps_accepted, contains_itself}
+use Rattle.ta_core.proofs.acceptance.Containment.{contained_keeps_runs, contained_keeps_accepted, contains_itself}
 use Rattle.ta_core.proofs.laws.contained_automata_keep_runs.Goals as goal
 
 pub returns-clause-runs : goal.returns-clause-runs

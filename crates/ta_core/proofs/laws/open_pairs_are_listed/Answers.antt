@@ -1,4 +1,4 @@
-use Rattle.ta_core.proofs.OpenLists.{triples_are_decided, open_pairs_are_listed, open_pairs_are_open_triples, open_pairs_are_listing, first_open_is_head, closed_or_first_open, fronts_begin_open_pairs, more_open_are_longer}
+use Rattle.ta_core.proofs.closure.OpenLists.{triples_are_decided, open_pairs_are_listed, open_pairs_are_open_triples, open_pairs_are_listing, first_open_is_head, closed_or_first_open, fronts_begin_open_pairs, more_open_are_longer}
 use Rattle.ta_core.proofs.laws.open_pairs_are_listed.Goals as goal
 
 pub returns-clause-decided : goal.returns-clause-decided

@@ -1,4 +1,4 @@
-use Rattle.ta_core.proofs.RunsLaws.{run_from_plain}
+use Rattle.ta_core.specs.lemmas.RunsLaws.{run_from_plain}
 use Rattle.ta_core.proofs.laws.plain_runs_are_runs.Goals as goal
 
 pub returns : goal.returns

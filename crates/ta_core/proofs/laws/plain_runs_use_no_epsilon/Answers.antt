@@ -1,4 +1,4 @@
-use Rattle.ta_core.proofs.RunsLaws.{run_of_plain, plain_of_run}
+use Rattle.ta_core.specs.lemmas.RunsLaws.{run_of_plain, plain_of_run}
 use Rattle.ta_core.proofs.laws.plain_runs_use_no_epsilon.Goals as goal
 
 pub returns : goal.returns

@@ -1,4 +1,4 @@
-use Rattle.ta_core.proofs.RunsLaws.{least}
+use Rattle.ta_core.specs.lemmas.RunsLaws.{least}
 use Rattle.ta_core.proofs.laws.runs_are_least.Goals as goal
 
 pub returns : goal.returns

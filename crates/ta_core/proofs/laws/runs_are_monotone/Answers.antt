@@ -1,4 +1,4 @@
-use Rattle.ta_core.proofs.RunsLaws.{runs_within}
+use Rattle.ta_core.specs.lemmas.RunsLaws.{runs_within}
 use Rattle.ta_core.proofs.laws.runs_are_monotone.Goals as goal
 
 pub returns : goal.returns

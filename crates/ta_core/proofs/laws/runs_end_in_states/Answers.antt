@@ -1,4 +1,4 @@
-use Rattle.ta_core.proofs.RunsLaws.{run_ends}
+use Rattle.ta_core.specs.lemmas.RunsLaws.{run_ends}
 use Rattle.ta_core.proofs.laws.runs_end_in_states.Goals as goal
 
 pub returns : goal.returns

@@ -1,4 +1,4 @@
-use Rattle.ta_core.proofs.Factor.{instances_factor, instances_compose}
+use Rattle.ta_core.proofs.closure.Factor.{instances_factor, instances_compose}
 use Rattle.ta_core.proofs.laws.runs_of_instances_factor.Goals as goal
 
 pub returns-clause-factor : goal.returns-clause-factor

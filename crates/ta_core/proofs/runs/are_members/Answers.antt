@@ -1,7 +1,7 @@
 use Rattle.std.proofs.Common.{ℕ, List, sym, eqb-true, rules}
 use Rattle.std.specs.List.{Contains}
 use Rattle.std.proofs.lemmas.Iterator.{cases_from_all, YieldsList-from_slice, YieldsList-from_zip}
-use Rattle.ta_core.proofs.RunStates.{zip_answers, zip_length}
+use Rattle.list_laws.proofs.Zips.{zip_answers, zip_length}
 use Rattle.ta_core.proofs.runs.are_members.Goals as goal
 
 pub returns-then-states-sets : goal.returns-then-states-sets

@@ -1,6 +1,6 @@
 use Rattle.std.proofs.Common.{All, subst}
 use Rattle.trs_rules.specs.Rules.{IsRule}
-use Rattle.ta_core.proofs.Acceptance.{accepted_is_safe}
+use Rattle.ta_core.proofs.acceptance.Acceptance.{accepted_is_safe}
 use Rattle.ta_core.proofs.safety.accepted_means_safe.Goals as goal
 
 pub returns : goal.returns

@@ -1,4 +1,4 @@
-use Rattle.ta_core.proofs.Members.{found}
+use Rattle.list_laws.proofs.Members.{found}
 use Rattle.ta_core.proofs.tests.is_state.Goals as goal
 
 pub returns : goal.returns

@@ -3,7 +3,7 @@ use Rattle.std.proofs.lemmas.List.{take_more, take_all}
 use Rattle.ranked_terms.specs.declared.term.Config.{App}
 use Rattle.ta_core.specs.Reached.{EntersAndReaches}
 use Rattle.ta_core.specs.Runs.{Runs}
-use Rattle.ta_core.proofs.RunStates.{AreExact, exact_more, exact_by, runs_of_app}
+use Rattle.ta_core.specs.lemmas.RunStates.{AreExact, exact_more, exact_by, runs_of_app}
 use Rattle.ta_core.proofs.automaton.Automaton.+reached_by.Goals as goal
 
 pub loop-arg-preserved : goal.loop-arg-preserved

@@ -1,5 +1,5 @@
 use Rattle.std.proofs.Common.{take}
-use Rattle.ta_core.proofs.RunStates.{AreExact}
+use Rattle.ta_core.specs.lemmas.RunStates.{AreExact}
 use Rattle.ta_core.proofs.automaton.Automaton.+reached_by.Given as goal
 
 abbrev pub invariant-loop-arg : goal.invariant-loop-arg

@@ -5,7 +5,7 @@ use Rattle.ranked_terms.specs.declared.term.Term.TheViews.{out-Term}
 use Rattle.ranked_terms.specs.declared.term.Config.{App}
 use Rattle.ta_core.specs.Reached.{EntersAndReaches}
 use Rattle.ta_core.specs.Runs.{Runs}
-use Rattle.ta_core.proofs.RunStates.{AreExact, exact_more, exact_by, runs_of_app, config_is}
+use Rattle.ta_core.specs.lemmas.RunStates.{AreExact, exact_more, exact_by, runs_of_app, config_is}
 use Rattle.ta_core.proofs.automaton.Automaton.+reached_by_term.Goals as goal
 
 pub loop-arg-preserved : goal.loop-arg-preserved

@@ -1,6 +1,6 @@
 use Rattle.std.proofs.Common.{take, map}
 use Rattle.ranked_terms.specs.Terms.{config_of}
-use Rattle.ta_core.proofs.RunStates.{AreExact}
+use Rattle.ta_core.specs.lemmas.RunStates.{AreExact}
 use Rattle.ta_core.proofs.automaton.Automaton.+reached_by_term.Given as goal
 
 abbrev pub invariant-loop-arg : goal.invariant-loop-arg

@@ -1,7 +1,7 @@
 use Rattle.std.proofs.Common.{ap}
 use Rattle.ta_core.specs.TreeAutomaton.{TreeAutomaton, IsTransOf}
-use Rattle.ta_core.proofs.Keys.{all_after}
-use Rattle.ta_core.proofs.Orders.{trans_exact}
+use Rattle.list_laws.proofs.Members.{all_after}
+use Rattle.ta_core.specs.lemmas.Orders.{trans_exact}
 use Rattle.ta_core.proofs.automaton.Automaton.add_all_trans.Goals as goal
 
 pub add_all-requires : goal.add_all-requires

@@ -1,7 +1,8 @@
 use Rattle.std.proofs.Common.{ℕ, ◌∷◌, [], ap, arith}
 use Rattle.ta_core.specs.TreeAutomaton.{TreeAutomaton, IsEpsOf}
-use Rattle.ta_core.proofs.Keys.{all_after, all_one, union_after, new_after}
-use Rattle.ta_core.proofs.Orders.{pair_total, pair_exact}
+use Rattle.list_laws.proofs.Members.{all_after, all_one}
+use Rattle.list_laws.proofs.Inserting.{union_after, new_after}
+use Rattle.ta_core.specs.lemmas.Orders.{pair_total, pair_exact}
 use Rattle.ta_core.proofs.automaton.Automaton.add_eps.Goals as goal
 
 pub invariant_of-self : goal.invariant_of-self

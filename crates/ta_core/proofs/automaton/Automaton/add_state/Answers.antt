@@ -1,5 +1,6 @@
 use Rattle.std.proofs.Common.{◌≡◌, ◌∷◌, ◌++◌, [], ◌∙◌, arith}
-use Rattle.ta_core.proofs.Keys.{insert_last, sound_more}
+use Rattle.list_laws.proofs.Inserting.{insert_last}
+use Rattle.ta_core.proofs.Soundness.{sound_more}
 use Rattle.ta_core.proofs.automaton.Automaton.add_state.Goals as goal
 
 pub invariant_of-self-2 : goal.invariant_of-self-2

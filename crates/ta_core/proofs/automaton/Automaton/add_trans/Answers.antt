@@ -1,7 +1,8 @@
 use Rattle.std.proofs.Common.{◌∷◌, [], ap}
 use Rattle.ta_core.specs.TreeAutomaton.{TreeAutomaton, IsTransOf, trans_of}
-use Rattle.ta_core.proofs.Keys.{all_after, all_one, union_after, new_after}
-use Rattle.ta_core.proofs.Orders.{trans_total, trans_exact}
+use Rattle.list_laws.proofs.Members.{all_after, all_one}
+use Rattle.list_laws.proofs.Inserting.{union_after, new_after}
+use Rattle.ta_core.specs.lemmas.Orders.{trans_total, trans_exact}
 use Rattle.ta_core.proofs.automaton.Automaton.add_trans.Goals as goal
 
 pub invariant_of-self : goal.invariant_of-self

@@ -1,7 +1,7 @@
 use Rattle.std.specs.List.{Contains}
 use Rattle.ranked_terms.specs.declared.term.Config.{State}
 use Rattle.ta_core.specs.Runs.{Runs}
-use Rattle.ta_core.proofs.RunStates.{exact_by}
+use Rattle.ta_core.specs.lemmas.RunStates.{exact_by}
 use Rattle.ta_core.proofs.automaton.Automaton.eps_closure.Goals as goal
 
 pub returns : goal.returns

@@ -1,5 +1,5 @@
 use Rattle.ta_core.specs.Reached.{ReachedFrom, EntersAndReaches}
-use Rattle.ta_core.proofs.RunStates.{exact_by, entered_and_reached}
+use Rattle.ta_core.specs.lemmas.RunStates.{exact_by, entered_and_reached}
 use Rattle.ta_core.proofs.automaton.Automaton.reached_at.Goals as goal
 
 pub returns : goal.returns

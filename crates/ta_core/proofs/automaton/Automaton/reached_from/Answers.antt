@@ -4,10 +4,10 @@ use Rattle.indexmap.specs.IndexSet.{insert_key}
 use Rattle.ranked_terms.specs.declared.term.Config.{State}
 use Rattle.ta_core.specs.Reached.{ReachedFrom}
 use Rattle.ta_core.specs.Runs.{Runs}
-use Rattle.ta_core.proofs.Keys.{all_one}
-use Rattle.ta_core.proofs.Members.{none}
-use Rattle.ta_core.proofs.RunsLaws.{run_of_state}
-use Rattle.ta_core.proofs.RunStates.{exact_by, runs_of_state, one_state}
+use Rattle.list_laws.proofs.Members.{all_one}
+use Rattle.list_laws.proofs.Members.{none}
+use Rattle.ta_core.specs.lemmas.RunsLaws.{run_of_state}
+use Rattle.ta_core.specs.lemmas.RunStates.{exact_by, runs_of_state, one_state}
 use Rattle.ta_core.proofs.automaton.Automaton.reached_from.Goals as goal
 
 pub returns-then-not-has_state : goal.returns-then-not-has_state

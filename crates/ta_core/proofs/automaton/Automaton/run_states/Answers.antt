@@ -1,6 +1,6 @@
 use Rattle.std.specs.List.{Contains}
 use Rattle.ta_core.specs.Runs.{Runs}
-use Rattle.ta_core.proofs.RunStates.{exact_by}
+use Rattle.ta_core.specs.lemmas.RunStates.{exact_by}
 use Rattle.ta_core.proofs.automaton.Automaton.run_states.Goals as goal
 
 pub returns : goal.returns

@@ -1,7 +1,7 @@
 use Rattle.std.proofs.Common.{ap}
 use Rattle.std.specs.List.{Contains}
 use Rattle.ta_core.specs.TreeAutomaton.{TreeAutomaton}
-use Rattle.ta_core.proofs.Keys.{all_after}
+use Rattle.list_laws.proofs.Members.{all_after}
 use Rattle.ta_core.proofs.automaton.Automaton.set_all_final.Goals as goal
 
 pub invariant_of-self : goal.invariant_of-self

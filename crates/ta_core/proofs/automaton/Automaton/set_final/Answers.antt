@@ -3,7 +3,8 @@ use Rattle.std.specs.List.{Contains}
 use Rattle.std.proofs.lemmas.Cmp.{nat_cmp_total}
 use Rattle.std.proofs.lemmas.Map.Lookups.{exact_unsigned}
 use Rattle.ta_core.specs.TreeAutomaton.{TreeAutomaton}
-use Rattle.ta_core.proofs.Keys.{all_after, all_one, union_after, new_after}
+use Rattle.list_laws.proofs.Members.{all_after, all_one}
+use Rattle.list_laws.proofs.Inserting.{union_after, new_after}
 use Rattle.ta_core.proofs.automaton.Automaton.set_final.Goals as goal
 
 pub invariant_of-self : goal.invariant_of-self

@@ -4,8 +4,8 @@ use Rattle.std.proofs.lemmas.List.{take_more, take_all}
 use Rattle.std.proofs.lemmas.List.Elements.{Contains-get_or, All-contains}
 use Rattle.ta_core.specs.TreeAutomaton.{IsTransOf}
 use Rattle.ta_core.specs.Reached.{HasTransInto}
-use Rattle.ta_core.proofs.ReachedSets.{all_insert}
-use Rattle.ta_core.proofs.RunStates.{trans_fits, trans_skipped, into_from_range}
+use Rattle.list_laws.proofs.Growing.{all_insert}
+use Rattle.ta_core.specs.lemmas.RunStates.{trans_fits, trans_skipped, into_from_range}
 use Rattle.ta_core.proofs.automaton.Automaton.targets_of.Goals as goal
 use Rattle.ta_core.proofs.automaton.Automaton.targets_of.Goals.{then-are_members+in_ok-add, else-are_members}
 

@@ -2,7 +2,8 @@ use Rattle.std.proofs.Common.{ltb, leb, rules, drop}
 use Rattle.std.proofs.lemmas.List.{take_rest}
 use Rattle.std.proofs.lemmas.List.Sorted.{IsPartitionPoint-from_clause, IsPartitionedBy-ltb, IsPartitionedBy-leb, IsNonDecreasingBy-drop}
 use Rattle.ta_core.specs.declared.trans.Trans.{Trans}
-use Rattle.ta_core.proofs.Lookups.{trans_ascend, part_of_key}
+use Rattle.ta_core.specs.lemmas.Orders.{trans_ascend}
+use Rattle.list_laws.proofs.Lookups.{part_of_key}
 use Rattle.ta_core.proofs.automaton.Automaton.trans_with.Goals as goal
 
 pub returns-clause-members : goal.returns-clause-members

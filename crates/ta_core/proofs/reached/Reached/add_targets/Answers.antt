@@ -1,6 +1,6 @@
 use Rattle.std.proofs.Common.{subst}
 use Rattle.std.proofs.lemmas.List.{take_all}
-use Rattle.ta_core.proofs.ReachedSets.{HasTargets, one_more_target, keeps_more}
+use Rattle.list_laws.proofs.Growing.{HasTargets, one_more_target, keeps_more}
 use Rattle.ta_core.proofs.reached.Reached.add_targets.Goals as goal
 
 pub loop-to-preserved : goal.loop-to-preserved

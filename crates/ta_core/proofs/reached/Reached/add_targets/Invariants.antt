@@ -1,5 +1,5 @@
 use Rattle.std.proofs.Common.{take}
-use Rattle.ta_core.proofs.ReachedSets.{HasTargets, Keeps}
+use Rattle.list_laws.proofs.Growing.{HasTargets, Keeps}
 use Rattle.ta_core.proofs.reached.Reached.add_targets.Given as goal
 
 abbrev pub invariant-loop-to : goal.invariant-loop-to

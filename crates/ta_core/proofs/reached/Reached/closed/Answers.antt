@@ -1,6 +1,7 @@
 use Rattle.std.proofs.Common.{◌<◌, sym, ◌∙◌, arith}
 use Rattle.std.proofs.lemmas.Option.{slice_get_within}
-use Rattle.ta_core.proofs.ReachedSets.{closing_starts, closing_more, closing_ends, few_states, past_end}
+use Rattle.ta_core.specs.lemmas.ReachedSets.{closing_starts, closing_more, closing_ends, few_states}
+use Rattle.list_laws.proofs.Growing.{past_end}
 use Rattle.ta_core.proofs.reached.Reached.closed.Goals as goal
 
 pub loop-state-init : goal.loop-state-init

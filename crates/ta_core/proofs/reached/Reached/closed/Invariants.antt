@@ -1,5 +1,5 @@
 use Rattle.std.proofs.Common.{◌-◌}
-use Rattle.ta_core.proofs.ReachedSets.{IsClosing}
+use Rattle.ta_core.specs.lemmas.ReachedSets.{IsClosing}
 use Rattle.ta_core.proofs.reached.Reached.closed.Given as goal
 
 abbrev pub invariant-loop-state : goal.invariant-loop-state

@@ -1,4 +1,4 @@
-use Rattle.ta_core.proofs.ReachedSets.{is_member}
+use Rattle.list_laws.proofs.Members.{is_member}
 use Rattle.ta_core.proofs.reached.Reached.contains.Goals as goal
 
 pub returns : goal.returns

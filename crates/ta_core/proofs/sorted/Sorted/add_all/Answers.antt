@@ -4,7 +4,7 @@ use Rattle.std.proofs.lemmas.List.Filters.{dedup_is}
 use Rattle.std.proofs.lemmas.List.Kept.{IsStrictlySortedBy-dedup, Contains-dedup, Contains-from_dedup}
 use Rattle.std.proofs.lemmas.List.Sorted.{Contains-permutation, IsPermutation-sym}
 use Rattle.std.proofs.lemmas.List.Elements.{Contains-append_left, Contains-append_right, Contains-append_cases}
-use Rattle.ta_core.proofs.Members.{same_from_cmp}
+use Rattle.list_laws.proofs.Inserting.{same_from_cmp}
 use Rattle.ta_core.proofs.sorted.Sorted.add_all.Goals as goal
 
 pub invariant_of-self-2 : goal.invariant_of-self-2

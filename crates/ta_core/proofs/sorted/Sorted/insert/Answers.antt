@@ -1,5 +1,5 @@
 use Rattle.std.proofs.Common.{not, sym, ap}
-use Rattle.ta_core.proofs.Places.{searchable, insert_at_gap, absent_at_gap, present_at, unchanged_at, sorted_insert_key}
+use Rattle.list_laws.proofs.Places.{searchable, insert_at_gap, absent_at_gap, present_at, unchanged_at, sorted_insert_key}
 use Rattle.ta_core.proofs.sorted.Sorted.insert.Goals as goal
 
 pub returns-in-Ok-clause-new : goal.returns-in-Ok-clause-new

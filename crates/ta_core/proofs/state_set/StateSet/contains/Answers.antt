@@ -1,5 +1,5 @@
 use Rattle.std.proofs.Common.{◌∙◌, sym}
-use Rattle.ta_core.proofs.Lookups.{search_finds}
+use Rattle.list_laws.proofs.Lookups.{search_finds}
 use Rattle.ta_core.proofs.state_set.StateSet.contains.Goals as goal
 
 pub returns : goal.returns

@@ -1,6 +1,6 @@
 use Rattle.std.proofs.Common.{⊎_elim, inr, subst}
 use Rattle.std.specs.List.{Contains}
-use Rattle.ta_core.proofs.Members.{none}
+use Rattle.list_laws.proofs.Members.{none}
 use Rattle.ta_core.proofs.state_set.StateSet.from_states.Goals as goal
 
 pub returns : goal.returns

@@ -1,0 +1,13 @@
+pub mod Tests
+pub mod Members
+pub mod Different
+pub mod Ends
+pub mod Positions
+pub mod Zips
+pub mod Places
+pub mod Inserting
+pub mod Lookups
+pub mod Ascending
+pub mod Listings
+pub mod Decided
+pub mod Growing

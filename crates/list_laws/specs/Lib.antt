@@ -1,0 +1,4 @@
+pub mod Lists
+pub mod Listings
+pub mod ListingLaws
+pub mod ListLaws

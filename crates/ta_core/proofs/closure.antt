@@ -1,0 +1,5 @@
+pub mod Factor
+pub mod Closure
+pub mod OpenPairs
+pub mod OpenLists
+pub mod Ascending

@@ -1,0 +1,5 @@
+pub mod Orders
+pub mod RunsLaws
+pub mod RunStates
+pub mod ReachedSets
+pub mod Assignments
