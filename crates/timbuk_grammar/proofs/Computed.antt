@@ -10,9 +10,9 @@ use Rattle.timbuk_grammar.specs.Grammar.{Part, one, file}
 use Rattle.timbuk_grammar.specs.Derivations.{Opens, stay, token, Derives, Next, NextEnd, Stands}
 use Rattle.timbuk_grammar.specs.Next.{may_end, Choice, choices, choice_of, open_after, open_after_all, open_parts, terminal_of, terminal_at, next_allowed, end_allowed}
 use Rattle.timbuk_grammar.specs.Laws.{NextLaw}
-use Rattle.timbuk_grammar.proofs.Choices.{here, through, choice_opens, all_pass}
-use Rattle.timbuk_grammar.proofs.Told.{told}
-use Rattle.timbuk_grammar.proofs.Decided.{all_decide, file_decides, choice_decides, finds, found_fits}
+use Rattle.timbuk_grammar.specs.lemmas.Choices.{here, through, choice_opens, all_pass}
+use Rattle.timbuk_grammar.specs.lemmas.Next.{told}
+use Rattle.timbuk_grammar.specs.lemmas.Decided.{all_decide, file_decides, choice_decides, finds, found_fits}
 use Rattle.timbuk_grammar.proofs.Texts.{some_text}
 
 -- ---- several tokens

@@ -9,8 +9,8 @@ use Rattle.timbuk_grammar.specs.Matching.{matches}
 use Rattle.timbuk_grammar.specs.Grammar.{Part, ◌then◌, ◌or◌, many}
 use Rattle.timbuk_grammar.specs.Next.{empties, Choice, begins, begins_with, choices, may_end}
 use Rattle.timbuk_grammar.specs.Laws.{SameNext, PartsLaw}
-use Rattle.timbuk_grammar.proofs.Told.{then_groups}
-use Rattle.timbuk_grammar.proofs.Decided.{terminals, begins_firsts}
+use Rattle.timbuk_grammar.specs.lemmas.Next.{then_groups}
+use Rattle.timbuk_grammar.specs.lemmas.Decided.{terminals, begins_firsts}
 
 abbrev matched : Lexeme → Choice → Bool
 matched x c = matches c.terminal x

@@ -1,7 +1,7 @@
 -- Derivations of the grammar, from left to right (this project's own format).
 use Rattle.std.specs.Prelude.{◌≡◌, true, List, [], ◌∷◌, ◌++◌}
 use Rattle.timbuk_lex.specs.declared.lexeme.Lexeme.{Lexeme}
-use Rattle.timbuk_grammar.specs.declared.terminal.Place.{Place}
+use Rattle.timbuk_grammar.specs.declared.terminal.Role.{Role}
 use Rattle.timbuk_grammar.specs.declared.terminal.Terminal.{Terminal}
 use Rattle.timbuk_grammar.specs.Matching.{matches}
 use Rattle.timbuk_grammar.specs.Grammar.{Part, one, ◌then◌, ◌or◌, maybe, many, pattern, name, pattern_arguments, file}
@@ -18,7 +18,7 @@ pub data Opens : List Part → List Lexeme → List Part → Type 0 where
   take : {a : Part} {ps qs : List Part} {xs : List Lexeme} → Opens (a ∷ ps) xs qs → Opens (maybe a ∷ ps) xs qs
   stop : {a : Part} {ps qs : List Part} {xs : List Lexeme} → Opens ps xs qs → Opens (many a ∷ ps) xs qs
   again : {a : Part} {ps qs : List Part} {xs : List Lexeme} → Opens (a ∷ many a ∷ ps) xs qs → Opens (many a ∷ ps) xs qs
-  head : {p : Place} {ps qs : List Part} {xs : List Lexeme} → Opens (name p ∷ pattern_arguments p ∷ ps) xs qs
+  head : {p : Role} {ps qs : List Part} {xs : List Lexeme} → Opens (name p ∷ pattern_arguments p ∷ ps) xs qs
       → Opens (pattern p ∷ ps) xs qs
 
 -- these parts, one after the other, derive these tokens

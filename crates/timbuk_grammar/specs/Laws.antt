@@ -2,7 +2,7 @@
 use Rattle.std.specs.Prelude.{◌≡◌, ◌↔◌, false, List, ◌∷◌, Some, IsTrue}
 use Rattle.timbuk_lex.specs.declared.lexeme.Lexeme.{Lexeme}
 use Rattle.timbuk_grammar.specs.declared.terminal.Terminal.{Terminal}
-use Rattle.timbuk_grammar.specs.declared.terminal.Place.{Place}
+use Rattle.timbuk_grammar.specs.declared.terminal.Role.{Role}
 use Rattle.timbuk_grammar.specs.Grammar.{Part, ◌then◌, ◌or◌, maybe, many, pattern, name, pattern_arguments, file}
 use Rattle.timbuk_grammar.specs.Derivations.{Next, NextEnd, Stands}
 use Rattle.timbuk_grammar.specs.Next.{empties, begins_with, choice_of, may_end, next_allowed, end_allowed, terminal_at}
@@ -27,7 +27,7 @@ pub record SameNext (ps qs : List Part) : Type 0 where
 -- What may come next at a part, in terms of what it consists of: where there is a choice, the token decides.
 pub record PartsLaw (ps : List Part) : Type 0 where
   pub both : (a b : Part) → SameNext (a then b ∷ ps) (a ∷ b ∷ ps)
-  pub head : (p : Place) → SameNext (pattern p ∷ ps) (name p ∷ pattern_arguments p ∷ ps)
+  pub head : (p : Role) → SameNext (pattern p ∷ ps) (name p ∷ pattern_arguments p ∷ ps)
   pub first : (a b : Part) (x : Lexeme) → IsTrue (begins_with a x) → choice_of (a or b ∷ ps) x ≡ choice_of (a ∷ ps) x
   pub second : (a b : Part) (x : Lexeme) → begins_with a x ≡ false → empties a ≡ false
       → choice_of (a or b ∷ ps) x ≡ choice_of (b ∷ ps) x

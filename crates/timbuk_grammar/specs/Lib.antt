@@ -5,3 +5,4 @@ pub mod Derivations
 pub mod Next
 pub mod Trees
 pub mod Laws
+pub mod lemmas

@@ -2,7 +2,7 @@
 use Rattle.std.specs.Prelude.{◌≡◌, ◌⊎◌, true, List, [], ◌∷◌, ◌++◌, Option, Some, None, flat_map}
 use Rattle.std.proofs.Common.{inl, inr}
 use Rattle.timbuk_lex.specs.declared.lexeme.Lexeme.{Lexeme}
-use Rattle.timbuk_grammar.specs.declared.terminal.Place.{Place}
+use Rattle.timbuk_grammar.specs.declared.terminal.Role.{Role}
 use Rattle.timbuk_grammar.specs.declared.terminal.Terminal.{Terminal}
 use Rattle.timbuk_grammar.specs.declared.terminal.Terminal.TheVariants as terminal
 use Rattle.timbuk_grammar.specs.Matching.{matches}
@@ -15,12 +15,12 @@ pub record Token (t : Terminal) : Type 0 where
 
 mutual
   -- a pattern: a name alone, or a name with its arguments in parentheses
-  pub data Tree (p : Place) : Type 0 where
+  pub data Tree (p : Role) : Type 0 where
     leaf : Token (terminal.Named p) → Tree p
     node : Token (terminal.Named p) → Token terminal.OpenParen → Tree p → Trees p → Token terminal.CloseParen → Tree p
 
   -- the arguments after the first, each with the comma before it
-  pub data Trees (p : Place) : Type 0 where
+  pub data Trees (p : Role) : Type 0 where
     none : Trees p
     comma : Token terminal.Comma → Tree p → Trees p → Trees p
 
@@ -35,13 +35,13 @@ Value (pattern p) = Tree p
 
 abbrev mutual
   -- the tokens of a pattern
-  pub pattern_spelling : (p : Place) → Tree p → List Lexeme
+  pub pattern_spelling : (p : Role) → Tree p → List Lexeme
   pattern_spelling p (leaf n) = n.lexeme ∷ []
   pattern_spelling p (node n opening argument more closing) =
       n.lexeme ∷ opening.lexeme ∷ (pattern_spelling p argument ++ (more_spelling p more ++ closing.lexeme ∷ []))
 
   -- the tokens of the arguments after the first
-  pub more_spelling : (p : Place) → Trees p → List Lexeme
+  pub more_spelling : (p : Role) → Trees p → List Lexeme
   more_spelling p none = []
   more_spelling p (comma mark argument more) = mark.lexeme ∷ (pattern_spelling p argument ++ more_spelling p more)
 

@@ -1,6 +1,6 @@
 //! The grammar of the input text: which tokens may stand where, and what its derivations are.
 //!
-//! The grammar itself is a definition that contracts cite (`specs/Grammar.antt`). The code here tells of one token whether
+//! The grammar itself is a definition that contracts cite (`specs/Grammar.antt`). The code here says of one token whether
 //! it is what the grammar has in its place.
 #![tactic(auto)]
 
@@ -9,7 +9,7 @@ mod terminal;
 mod words;
 
 pub use laws::{next_law, no_text_has_two_derivations, parts_law};
-pub use terminal::{Place, Terminal};
+pub use terminal::{Role, Terminal};
 pub use words::{is_closed_word, is_reserved_word};
 
 #[cfg(test)]

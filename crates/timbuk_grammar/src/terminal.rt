@@ -9,7 +9,7 @@ use timbuk_lex::{Lexeme, TokenKind};
 
 /// The places in which a name may stand.
 #[derive(Clone, Copy, Debug, Drop, PartialEq, Eq)]
-pub enum Place {
+pub enum Role {
     /// A symbol, where `Ops` declares it.
     Symbol,
     /// A variable, where `Vars` declares it.
@@ -96,7 +96,7 @@ pub enum Terminal {
     /// The mark `]` after the entries of an approximation rule.
     CloseEntries,
     /// A name: any word that is neither a section word nor a closed word.
-    Named(Place),
+    Named(Role),
     /// An arity: a word of digits.
     Number,
     /// The word `0` after the colon of a state.

@@ -1,7 +1,7 @@
 //! Which terminals the tokens of a text match, worked out by hand.
 ghost use Rattle.std.specs.Prelude.{◌-◌, ◌<◌, ◌^◌, length};
 
-use crate::{Place, Terminal, is_closed_word, is_reserved_word};
+use crate::{Role, Terminal, is_closed_word, is_reserved_word};
 use std::alloc::Global;
 use std::test::Fail;
 use timbuk_lex::lex_of;
@@ -29,7 +29,7 @@ const TERMINALS: [Terminal; 25] = [
     Terminal::OpenBracket,
     Terminal::CloseBracket,
     Terminal::CloseEntries,
-    Terminal::Named(Place::State),
+    Terminal::Named(Role::State),
     Terminal::Number,
     Terminal::Zero,
     Terminal::Quoted,

@@ -34,8 +34,8 @@ pub struct Lexed<'a> {
     pub ending: Ending,
 }
 
-/// The tokens of a text of fewer than 4,294,967,295 bytes, so that lines and columns fit. The only error is want of
-/// memory; what is wrong in the text is told in the ending.
+/// The tokens of a text of fewer than 4,294,967,295 bytes, so that lines and columns fit. The only error is running out of
+/// memory; what is wrong in the text is reported in the ending.
 pub fn lex_of<'a>(alloc: Global, bytes: &'a [u8]) -> Result<Lexed<'a>, AllocError>
     requires { length bytes.now < 2 ^ 32 - 1 }
     ensures exact { IfOk result (λ l. l ≡ lexed bytes.now) }

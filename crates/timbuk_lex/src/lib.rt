@@ -9,7 +9,7 @@ mod lexeme;
 mod piece;
 mod place;
 
-pub use laws::{lexing_law, word_law};
+pub use laws::{lexing_law, token_words_law, word_law};
 pub use lex::{Ending, Lexed, lex_of};
 pub use lexeme::{Lexeme, Slice, TokenKind};
 pub use piece::LexFault;

@@ -7,11 +7,11 @@ use Rattle.ranked_terms.specs.declared.term.Shape.{Shape}
 use Rattle.ranked_terms.specs.declared.term.Shape.TheVariants as shape
 use Rattle.trs_rules.specs.declared.entry.Entry.{Entry}
 use Rattle.ta_core.specs.SpecRules.{shape_is_over, shape_is_below, shape_occurrences}
-use Rattle.timbuk_grammar.specs.declared.terminal.Place.{Place}
-use Rattle.timbuk_grammar.specs.declared.terminal.Place.TheVariants as place
+use Rattle.timbuk_grammar.specs.declared.terminal.Role.{Role}
+use Rattle.timbuk_grammar.specs.declared.terminal.Role.TheVariants as role
 use Rattle.timbuk_grammar.specs.declared.terminal.Terminal.TheVariants as terminal
 use Rattle.timbuk_grammar.specs.Grammar.{Part, one, ◌then◌, some, name, entry}
-use Rattle.timbuk_reader.specs.declared.fault.SpecKind.TheVariants as kind
+use Rattle.spec_text.specs.declared.fault.SpecKind.TheVariants as kind
 use Rattle.timbuk_reader.specs.declared.fault.SpecError.{SpecError}
 use Rattle.timbuk_reader.specs.declared.fault.SpecError.TheVariants as error
 use Rattle.timbuk_reader.specs.declared.state.Reader.{Reader}
@@ -19,9 +19,10 @@ use Rattle.timbuk_reader.specs.declared.approximation.Form.{Form}
 use Rattle.timbuk_reader.specs.declared.approximation.Leaf.{Leaf}
 use Rattle.timbuk_reader.specs.declared.approximation.Leaf.TheVariants as leaf
 use Rattle.timbuk_reader.specs.declared.approximation.StartedEntry.{StartedEntry}
-use Rattle.timbuk_reader.specs.Declarations.{Text, any, constant, function, Meaning, a_variable, a_state, meaning, has, with_variable, named}
-use Rattle.timbuk_reader.specs.Reading.{outcome}
-use Rattle.timbuk_reader.specs.View.{Open, declared, state_of, end_of, settled, from, refusal, sees}
+use Rattle.spec_text.specs.Declarations.{Text, any, constant, function, Meaning, a_variable, a_state, meaning, has, with_variable, named}
+use Rattle.spec_text.specs.Reading.{outcome}
+use Rattle.timbuk_reader.specs.View.{Open, declared, state_of, end_of, from, refusal}
+use Rattle.spec_text.specs.Reading.{settled, sees}
 use Rattle.timbuk_reader.specs.Reads.{Stops, Stands}
 use Rattle.timbuk_reader.specs.Patterns.{within, application}
 use Rattle.timbuk_reader.specs.AutomatonReads.{IsReady}
@@ -47,14 +48,14 @@ formed form = within [] (form.whole ∷ form.at ∷ [])
 -- the symbol at the head of an entry was read, whose arguments come if it has some
 abbrev pub headed_by : ℕ → StartedEntry → Open
 headed_by zero e = record (within [] (e.form.whole ∷ e.form.at ∷ shape.App e.sym [] ∷ [])) { last = constant }
-headed_by (suc n) e = record (within (application place.EntryHead e.sym (suc n) [] ∷ []) (e.form.whole ∷ e.form.at ∷ [])) { last = function }
+headed_by (suc n) e = record (within (application role.EntryHead e.sym (suc n) [] ∷ []) (e.form.whole ∷ e.form.at ∷ [])) { last = function }
 
 abbrev pub headed : StartedEntry → Open
 headed e = headed_by e.arity e
 
 -- these of its arguments were read
 abbrev pub arguing : StartedEntry → Open
-arguing e = record (within (application place.EntryHead e.sym e.arity e.args ∷ []) (e.form.whole ∷ e.form.at ∷ [])) { own = e.own }
+arguing e = record (within (application role.EntryHead e.sym e.arity e.args ∷ []) (e.form.whole ∷ e.form.at ∷ [])) { own = e.own }
 
 -- the node of an entry
 abbrev pub node_of : StartedEntry → Shape
@@ -71,10 +72,10 @@ entry_of e target = record { whole = e.form.whole; at = e.form.at; node = node_o
 -- ---- variables and states
 
 -- the places in which a variable or a state stands
-abbrev pub IsLeafPlace : Place → Type 0
-IsLeafPlace place.EntryAt = Unit {0}
-IsLeafPlace place.EntryArgument = Unit {0}
-IsLeafPlace _ = ⊥
+abbrev pub IsLeafRole : Role → Type 0
+IsLeafRole role.EntryAt = Unit {0}
+IsLeafRole role.EntryArgument = Unit {0}
+IsLeafRole _ = ⊥
 
 -- what its name means
 abbrev pub leaf_meaning : Leaf → Meaning
@@ -86,12 +87,12 @@ leaf_shape (leaf.Variable v) = shape.Var v
 leaf_shape (leaf.State q) = shape.State q
 
 -- a name was read that has this meaning
-pub record ReadsName (p : Place) (old : Reader) (m : Meaning) (new : Reader) : Type 0 where
+pub record ReadsName (p : Role) (old : Reader) (m : Meaning) (new : Reader) : Type 0 where
   pub by : (o : Open) → IsReady o old → (ps : List Part)
       → from o (name p ∷ ps) old ≡ settled (outcome (end_of new) ps (record (named p m (declared o new)) { last = any }) new.tokens.now)
 
 -- no name can be read there
-pub record StopsName (p : Place) (old : Reader) (e : SpecError) : Type 0 where
+pub record StopsName (p : Role) (old : Reader) (e : SpecError) : Type 0 where
   pub by : (o : Open) → IsReady o old → Stops (name p) o old e
 
 -- a declaration is open that binds variables, and has these of its own
@@ -100,12 +101,12 @@ pub record IsBinding (own : List ℕ) (o : Open) : Type 0 where
   pub own_is : o.own ≡ own
 
 -- a variable or a state was read there
-pub record ReadsLeaf (p : Place) (own : List ℕ) (old : Reader) (l : Leaf) (new : Reader) : Type 0 where
+pub record ReadsLeaf (p : Role) (own : List ℕ) (old : Reader) (l : Leaf) (new : Reader) : Type 0 where
   pub by : (o : Open) → IsReady o old → IsBinding own o → (ps : List Part)
       → from o (name p ∷ ps) old ≡ settled (outcome (end_of new) ps (record (named p (leaf_meaning l) (declared o new)) { last = any }) new.tokens.now)
 
 -- none can be read there
-pub record StopsLeaf (p : Place) (own : List ℕ) (old : Reader) (e : SpecError) : Type 0 where
+pub record StopsLeaf (p : Role) (own : List ℕ) (old : Reader) (e : SpecError) : Type 0 where
   pub by : (o : Open) → IsReady o old → IsBinding own o → Stops (name p) o old e
 
 -- whether a variable may stand where these are bound and these are the entry's own
@@ -118,7 +119,7 @@ IsLeaf own r (leaf.Variable v) = IsTrue (has_room r.bound own v)
 IsLeaf own r (leaf.State q) = q < length r.initial.states
 
 -- the name of such a variable or state comes next
-pub record HasLeaf (p : Place) (own : List ℕ) (r : Reader) (l : Leaf) : Type 0 where
+pub record HasLeaf (p : Role) (own : List ℕ) (r : Reader) (l : Leaf) : Type 0 where
   pub text : Text
   pub stands : Stands (terminal.Named p) r text
   pub means : meaning (state_of r) p text ≡ leaf_meaning l
@@ -182,7 +183,7 @@ pub record IsNewEntry (form : Form) (e : StartedEntry) : Type 0 where
   pub args : e.args ≡ []
   pub own : e.own ≡ []
 
--- a `(` stands behind a symbol of arity 0, and that is told
+-- a `(` stands behind a symbol of arity 0, and that is reported
 pub record HasArguments (r : Reader) (e : SpecError) : Type 0 where
   pub seen : sees terminal.OpenParen r.tokens.now ≡ true
   pub told : e ≡ error.Fault (refusal kind.WrongArity r)

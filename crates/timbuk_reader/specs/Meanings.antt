@@ -1,7 +1,7 @@
--- What the reader tells of a name.
+-- What the reader finds of a name.
 use Rattle.timbuk_reader.specs.declared.meaning.Meaning.{Meaning}
 use Rattle.timbuk_reader.specs.declared.meaning.Meaning.TheVariants as told
-use Rattle.timbuk_reader.specs.Declarations as meanings
+use Rattle.spec_text.specs.Declarations as meanings
 
 abbrev pub meant_by : Meaning → meanings.Meaning
 meant_by told.Unknown = meanings.unknown

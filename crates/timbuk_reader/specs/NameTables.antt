@@ -1,4 +1,6 @@
 -- Tables of names.
+use Rattle.spec_text.specs.declared.fault.LimitName.TheVariants as limit
+use Rattle.spec_text.specs.Limits.{most}
 use Rattle.std.specs.Prelude.{ℕ, ◌≤◌, List, length, map, String, string_bytes}
 use Rattle.std.specs.Global.{Global}
 use Rattle.std.specs.List.{IsDistinct}
@@ -8,7 +10,7 @@ use Rattle.std.specs.Str.{bytes_eq}
 abbrev pub texts_of : List (String Global) → List (List ℕ)
 texts_of keys = map string_bytes keys
 
--- each name once, and at most 16,384
+-- each name once, and at most as many as an automaton has states
 pub record AreNames (names : List (List ℕ)) : Type 0 where
   pub distinct : IsDistinct bytes_eq names
-  pub few : length names ≤ 16384
+  pub few : length names ≤ most limit.States

@@ -7,8 +7,9 @@ use Rattle.timbuk_grammar.specs.Grammar.{Part, system, automaton, equations, app
 use Rattle.timbuk_reader.specs.declared.sections.Section.{Section}
 use Rattle.timbuk_reader.specs.declared.sections.Section.TheVariants.{System, Automaton, Equations, Approximation}
 use Rattle.timbuk_reader.specs.declared.state.Reader.{Reader}
-use Rattle.timbuk_reader.specs.Reading.{Outcome}
-use Rattle.timbuk_reader.specs.View.{closed, from, sees}
+use Rattle.spec_text.specs.Reading.{Outcome}
+use Rattle.timbuk_reader.specs.View.{closed, from}
+use Rattle.spec_text.specs.Reading.{sees}
 
 -- the word that begins a section
 abbrev pub word_of : Section → Terminal

@@ -1,4 +1,4 @@
--- The tokens of an input text as they are told to a caller, and the fault where there are none (this project's own format).
+-- The tokens of an input text as a caller gets them, and the fault where there are none (this project's own format).
 use Rattle.std.specs.Prelude.{◌≡◌, ℕ, ◌+◌, ◌<◌, ◌≤◌, ◌&&◌, Bool, nat_lt, List, [], ◌∷◌, Option, Some, None, find, length}
 use Rattle.std.specs.List.{slice_range}
 use Rattle.timbuk_lex.specs.Lexing.{lexed}
@@ -6,11 +6,12 @@ use Rattle.timbuk_lex.specs.declared.lexeme.Lexeme.{Lexeme}
 use Rattle.timbuk_lex.specs.declared.lex.Ending.{Ending}
 use Rattle.timbuk_lex.specs.declared.lex.Ending.TheVariants.{Whole, Stopped}
 use Rattle.timbuk_grammar.specs.Matching.{is_word}
-use Rattle.timbuk_reader.specs.declared.fault.SpecFault.{SpecFault}
-use Rattle.timbuk_reader.specs.declared.fault.SpecKind.TheVariants as kind
-use Rattle.timbuk_reader.specs.declared.fault.LimitName.TheVariants as limit
+use Rattle.spec_text.specs.declared.fault.SpecFault.{SpecFault}
+use Rattle.spec_text.specs.declared.fault.SpecKind.TheVariants as kind
+use Rattle.spec_text.specs.declared.fault.LimitName.TheVariants as limit
+use Rattle.spec_text.specs.Limits.{most}
 use Rattle.timbuk_reader.specs.declared.token.Token.{Token}
-use Rattle.timbuk_reader.specs.Reading.{fault, lexical_kind}
+use Rattle.spec_text.specs.Rows.{fault, lexical_kind}
 
 -- a token with a text of its own
 abbrev pub token_of : Lexeme → Token
@@ -26,9 +27,9 @@ abbrev pub InOrder : ℕ → List Token → Type 0
 InOrder from [] = Unit {0}
 InOrder from (t ∷ ts) = (from ≤ t.start) × (0 < length t.text) × InOrder (t.start + length t.text) ts
 
--- a word of more than 255 bytes
+-- a word of too many bytes
 abbrev pub is_long_word : Lexeme → Bool
-is_long_word x = is_word x.kind && nat_lt 255 (length x.text)
+is_long_word x = is_word x.kind && nat_lt (most limit.NameBytes) (length x.text)
 
 -- the fault of the byte that begins no token, where there is one
 abbrev pub ending_fault : Ending → Option SpecFault

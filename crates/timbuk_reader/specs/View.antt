@@ -6,20 +6,18 @@ use Rattle.timbuk_lex.specs.Places.{line_of, column_of}
 use Rattle.timbuk_lex.specs.declared.lexeme.Lexeme.{Lexeme}
 use Rattle.timbuk_lex.specs.declared.lex.Ending.{Ending}
 use Rattle.timbuk_lex.specs.declared.lex.Ending.TheVariants.{Whole, Stopped}
-use Rattle.timbuk_grammar.specs.declared.terminal.Terminal.{Terminal}
-use Rattle.timbuk_grammar.specs.Matching.{matches}
 use Rattle.timbuk_grammar.specs.Grammar.{Part}
-use Rattle.timbuk_reader.specs.declared.fault.SpecKind.{SpecKind}
-use Rattle.timbuk_reader.specs.declared.fault.SpecKind.TheVariants as kind
-use Rattle.timbuk_reader.specs.declared.fault.SpecFault.{SpecFault}
+use Rattle.spec_text.specs.declared.fault.SpecKind.{SpecKind}
+use Rattle.spec_text.specs.declared.fault.SpecKind.TheVariants as kind
+use Rattle.spec_text.specs.declared.fault.SpecFault.{SpecFault}
 use Rattle.timbuk_reader.specs.declared.fault.SpecError.{SpecError}
 use Rattle.timbuk_reader.specs.declared.fault.SpecError.TheVariants as error
 use Rattle.timbuk_reader.specs.declared.state.StartedAutomaton.{StartedAutomaton}
 use Rattle.timbuk_reader.specs.declared.state.Reader.{Reader}
-use Rattle.timbuk_reader.specs.Declarations.{Text, Started, Application, Head, no_head, Last, any, Declared}
-use Rattle.timbuk_reader.specs.Rows.{is_closed_word}
-use Rattle.timbuk_reader.specs.Reading.{Outcome, End, fault, lexical_kind, outcome}
-use Rattle.timbuk_reader.specs.Naming.{shape_of}
+use Rattle.spec_text.specs.Declarations.{Text, Started, Application, Head, no_head, Last, any, Declared}
+use Rattle.spec_text.specs.Rows.{is_closed_word, fault, lexical_kind}
+use Rattle.spec_text.specs.Reading.{Outcome, End, outcome, settled}
+use Rattle.spec_text.specs.Naming.{shape_of}
 
 -- ---- what is declared
 
@@ -100,11 +98,6 @@ end_column bytes = column_of bytes
 abbrev pub end_of : Reader → End
 end_of r = record { ending = r.ending; line = end_line r.bytes.now; column = end_column r.bytes.now }
 
--- what a whole text declares, whatever its last token was
-abbrev pub settled : Outcome → Outcome
-settled (Ok d) = Ok (record d { last = any })
-settled (Err f) = Err f
-
 -- what the text declares from here on, or its first fault, where these parts are open
 abbrev pub from : Open → List Part → Reader → Outcome
 from o ps r = settled (outcome (end_of r) ps (declared o r) r.tokens.now)
@@ -129,15 +122,10 @@ abbrev pub told : Bool → SpecKind → SpecKind
 told true k = kind.UnknownSection
 told false k = k
 
--- A closed word is told as one, and at the end there is the byte that begins no token, or a token is expected.
+-- A closed word is reported as one, and at the end there is the byte that begins no token, or a token is expected.
 abbrev pub refusal_at : SpecKind → End → List Lexeme → SpecFault
 refusal_at k end [] = end_fault end.ending end
 refusal_at k end (x ∷ rest) = fault (told (is_closed_word x) k) x.line x.column
 
 abbrev pub refusal : SpecKind → Reader → SpecFault
 refusal k r = refusal_at k (end_of r) r.tokens.now
-
--- the next token is what the terminal stands for
-abbrev pub sees : Terminal → List Lexeme → Bool
-sees t [] = false
-sees t (x ∷ rest) = matches t x

@@ -1,27 +1,28 @@
 //! Reads approximations.
 ghost use Rattle.std.specs.Prelude.{◌≡◌, ◌≢◌, false, ◌<◌, ◌≤◌, ◌+◌, ◌∷◌, [], ◌++◌, IfOk, IfErr, OnOk, MatchResult, length};
 ghost use Rattle.timbuk_grammar.specs.Grammar as grammar;
-ghost use Rattle.timbuk_grammar.specs.declared.terminal.Place.TheVariants as place;
+ghost use Rattle.timbuk_grammar.specs.declared.terminal.Role.TheVariants as role;
 ghost use Rattle.timbuk_grammar.specs.declared.terminal.Terminal.TheVariants as terminal;
-ghost use Rattle.timbuk_reader.specs.Declarations.{a_state};
-ghost use Rattle.timbuk_reader.specs.View.{Shorter, closed, state_of, sees};
-ghost use Rattle.timbuk_reader.specs.Reads.{Leads, Stops, Reads};
+ghost use Rattle.spec_text.specs.Declarations.{a_state};
+ghost use Rattle.timbuk_reader.specs.View.{Shorter, closed, state_of};
+ghost use Rattle.spec_text.specs.Reading.{sees};
+ghost use Rattle.timbuk_reader.specs.Reads.{Advances, Stops, Reads};
 ghost use Rattle.timbuk_reader.specs.Patterns.{within, SameBut};
 ghost use Rattle.timbuk_reader.specs.AutomatonReads.{NoLonger, SameTokens, IsInApproximation};
-ghost use Rattle.timbuk_reader.specs.ApproximationReads.{OnlyTokens, OnlyEntries, IsLeafPlace, ReadsName, StopsName, HasLeaf, ReadsLeaf, StopsLeaf, IsLeaf, IsPart, IsForm, IsStarted, IsNewEntry, AddsArgument, SameHead, HasArguments};
+ghost use Rattle.timbuk_reader.specs.ApproximationReads.{OnlyTokens, OnlyEntries, IsLeafRole, ReadsName, StopsName, HasLeaf};
+ghost use Rattle.timbuk_reader.specs.ApproximationReads.{ReadsLeaf, StopsLeaf, IsLeaf, IsPart, IsForm, IsStarted, IsNewEntry};
+ghost use Rattle.timbuk_reader.specs.ApproximationReads.{AddsArgument, SameHead, HasArguments};
 ghost use Rattle.timbuk_reader.specs.ApproximationReads as entries;
 
-use crate::fault::{LimitName, SpecError, SpecKind};
+use crate::fault::SpecError;
 use crate::meaning::Meaning;
-use crate::pattern::{MAX_BOUND, contains};
+use crate::pattern::contains;
 use crate::state::Reader;
 use ranked_terms::{Seq, Shape};
+use spec_text::{LimitName, MAX_APPROXIMATIONS, MAX_ENTRIES, MAX_VARIABLES, SpecKind};
 use std::alloc::{AllocError, Global};
-use timbuk_grammar::{Place, Terminal};
+use timbuk_grammar::{Role, Terminal};
 use trs_rules::Entry;
-
-/// The largest number of entries.
-const MAX_ENTRIES: usize = 1024;
 
 /// What the entries of an approximation rule have in common: the form of the assigned right side, and that of the pair's
 /// state.
@@ -62,7 +63,7 @@ impl Leaf {
 }
 
 impl Form {
-    /// An equal form. The only error is want of memory.
+    /// An equal form. The only error is running out of memory.
     fn copy(&self, alloc: Global) -> Result<Form, AllocError>
         ensures { IfOk result (λ copy. copy ≡ self.now) }
     {
@@ -74,7 +75,7 @@ impl Form {
 }
 
 impl StartedEntry {
-    /// Adds an argument, where these variables are bound. The only error is want of memory.
+    /// Adds an argument, where these variables are bound. The only error is running out of memory.
     fn add_argument(&mut self, arg: Leaf, bound: &[u32]) -> Result<(), AllocError>
         ensures { OnOk result (AddsArgument bound.now arg self.old self.new) }
     {
@@ -84,7 +85,7 @@ impl StartedEntry {
         self.args.push(arg.shape())
     }
 
-    /// Adds a variable to the entry's own, unless it is one of them or bound. The only error is want of memory.
+    /// Adds a variable to the entry's own, unless it is one of them or bound. The only error is running out of memory.
     fn add_variable(&mut self, variable: u32, bound: &[u32]) -> Result<(), AllocError>
         ensures own { OnOk result (self.new.own ≡ entries.with_own bound.now (Leaf.Variable variable) self.old.own) }
         ensures args { self.new.args ≡ self.old.args }
@@ -101,7 +102,13 @@ impl StartedEntry {
 
 impl<'s, 'a> Reader<'s, 'a> {
     /// An approximation, from its word on. It is refused before the first automaton, and where there is one.
-    #[tactic(auto, using(crate::proofs::Steps::then_leads, crate::proofs::Steps::then_stops, crate::proofs::Steps::later_stops, crate::proofs::Steps::then_reads))]
+    #[rattlefmt::skip]
+    #[tactic(auto, using(
+        crate::proofs::parsing::Parts::then_advances,
+        crate::proofs::parsing::Parts::then_stops,
+        crate::proofs::parsing::Parts::later_stops,
+        crate::proofs::parsing::Parts::then_reads
+    ))]
     pub(crate) fn approximation(&mut self) -> Result<(), SpecError>
         ensures shorter { OnOk result (Shorter self.old self.new) }
         ensures reads { Reads grammar.approximation closed self.old result closed self.new }
@@ -109,7 +116,7 @@ impl<'s, 'a> Reader<'s, 'a> {
         self.approximation_word()?;
         self.title()?;
         self.mark(Terminal::States)?;
-        self.states(Place::ApproximationState)?;
+        self.states(Role::ApproximationState)?;
         self.mark(Terminal::Rules)?;
         self.approximation_rules()
     }
@@ -124,7 +131,7 @@ impl<'s, 'a> Reader<'s, 'a> {
         if self.automata == 0 || !self.sees(Terminal::Approximation) {
             return Err(self.refusal(SpecKind::Expected));
         }
-        if self.approximations > 0 {
+        if self.approximations >= MAX_APPROXIMATIONS {
             return Err(self.refusal(SpecKind::Limit(LimitName::Approximations)));
         }
         self.advance();
@@ -133,7 +140,14 @@ impl<'s, 'a> Reader<'s, 'a> {
     }
 
     /// Approximation rules, as many as there are.
-    #[tactic(auto, using(crate::proofs::Steps::turns_start, crate::proofs::Steps::turns_again, crate::proofs::Steps::turns_stop, crate::proofs::Steps::turns_err, crate::proofs::Steps::then_head))]
+    #[rattlefmt::skip]
+    #[tactic(auto, using(
+        crate::proofs::parsing::Parts::turns_start,
+        crate::proofs::parsing::Parts::turns_again,
+        crate::proofs::parsing::Parts::turns_stop,
+        crate::proofs::parsing::Parts::turns_err,
+        crate::proofs::parsing::Parts::then_head
+    ))]
     fn approximation_rules(&mut self) -> Result<(), SpecError>
         requires { self.old.approximations ≢ 0 }
         ensures no_longer { OnOk result (NoLonger self.old self.new) }
@@ -154,7 +168,7 @@ impl<'s, 'a> Reader<'s, 'a> {
     {
         self.mark(Terminal::OpenBracket)?;
         self.unbind();
-        let whole = self.pattern(Place::EntryWhole, 0)?;
+        let whole = self.pattern(Role::EntryWhole, 0)?;
         self.mark(Terminal::Arrow)?;
         let form = self.form(whole)?;
         self.mark(Terminal::CloseBracket)?;
@@ -166,12 +180,13 @@ impl<'s, 'a> Reader<'s, 'a> {
     fn form(&mut self, whole: Shape) -> Result<Form, SpecError>
         requires { IsPart self.old self.old.bound whole }
         ensures shorter { OnOk result (Shorter self.old self.new) }
-        ensures ok { IfOk result (λ form. Leads (grammar.name place.EntryAt) (within [] (whole ∷ [])) self.old (entries.formed form) self.new) }
-        ensures err { IfErr result (Stops (grammar.name place.EntryAt) (within [] (whole ∷ [])) self.old) }
+        ensures ok { IfOk result (λ form. Advances (grammar.name role.EntryAt) (within [] (whole ∷ [])) self.old
+            (entries.formed form) self.new) }
+        ensures err { IfErr result (Stops (grammar.name role.EntryAt) (within [] (whole ∷ [])) self.old) }
         ensures form { IfOk result (IsForm self.new) }
         ensures same { OnOk result (state_of self.new ≡ state_of self.old) }
     {
-        let at = self.entry_leaf(Place::EntryAt, &[])?;
+        let at = self.entry_leaf(Role::EntryAt, &[])?;
         self.bind_leaf(at)?;
         Ok(Form {
             whole,
@@ -179,7 +194,7 @@ impl<'s, 'a> Reader<'s, 'a> {
         })
     }
 
-    /// Notes the variable of a form as one that is bound. The only error is want of memory.
+    /// Notes the variable of a form as one that is bound. The only error is running out of memory.
     fn bind_leaf(&mut self, leaf: Leaf) -> Result<(), AllocError>
         requires { IsLeaf [] self.old leaf }
         ensures bound { OnOk result (self.new.bound ≡ entries.with_leaf self.old.bound leaf) }
@@ -215,11 +230,12 @@ impl<'s, 'a> Reader<'s, 'a> {
         requires form { IsForm self.old form.now }
         requires begun { self.old.approximations ≢ 0 }
         ensures no_longer { OnOk result (NoLonger self.old self.new) }
-        ensures reads { Reads (grammar.some grammar.entry) (entries.formed form.now) self.old result (entries.formed form.now) self.new }
+        ensures reads { Reads (grammar.some grammar.entry) (entries.formed form.now) self.old result
+            (entries.formed form.now) self.new }
         ensures same { OnOk result (OnlyEntries self.old self.new) }
     {
         self.entry(form)?;
-        while self.sees(Terminal::Named(Place::EntryHead)) {
+        while self.sees(Terminal::Named(Role::EntryHead)) {
             self.entry(form)?;
         }
         Ok(())
@@ -241,17 +257,19 @@ impl<'s, 'a> Reader<'s, 'a> {
         Ok(())
     }
 
-    /// The symbol at the head of an entry. It is refused where there are 1,024 entries, and where there is no such symbol.
+    /// The symbol at the head of an entry. It is refused where there are `MAX_ENTRIES` entries, and where there is no such
+    /// symbol.
     fn entry_head(&mut self, form: &Form) -> Result<StartedEntry, SpecError>
         requires { IsForm self.old form.now }
         ensures shorter { OnOk result (Shorter self.old self.new) }
-        ensures ok { IfOk result (λ entry. Leads (grammar.name place.EntryHead) (entries.formed form.now) self.old (entries.headed entry) self.new) }
-        ensures err { IfErr result (Stops (grammar.name place.EntryHead) (entries.formed form.now) self.old) }
+        ensures ok { IfOk result (λ entry. Advances (grammar.name role.EntryHead) (entries.formed form.now) self.old
+            (entries.headed entry) self.new) }
+        ensures err { IfErr result (Stops (grammar.name role.EntryHead) (entries.formed form.now) self.old) }
         ensures started { IfOk result (IsStarted self.new) }
         ensures new { IfOk result (IsNewEntry form.now) }
         ensures same { OnOk result (OnlyTokens self.old self.new) }
     {
-        let name = self.word(Terminal::Named(Place::EntryHead))?;
+        let name = self.word(Terminal::Named(Role::EntryHead))?;
         if self.entries.len() >= MAX_ENTRIES {
             return Err(self.refusal(SpecKind::Limit(LimitName::Entries)));
         }
@@ -272,12 +290,12 @@ impl<'s, 'a> Reader<'s, 'a> {
     /// The state to which a node goes. Another name is refused as unknown, and a `(` behind the name as not expected.
     fn entry_target(&mut self) -> Result<u32, SpecError>
         ensures shorter { OnOk result (Shorter self.old self.new) }
-        ensures ok { IfOk result (λ target. ReadsName place.EntryTarget self.old (a_state target) self.new) }
-        ensures err { IfErr result (StopsName place.EntryTarget self.old) }
+        ensures ok { IfOk result (λ target. ReadsName role.EntryTarget self.old (a_state target) self.new) }
+        ensures err { IfErr result (StopsName role.EntryTarget self.old) }
         ensures below { IfOk result (λ target. target < length self.new.initial.states) }
         ensures same { OnOk result (OnlyTokens self.old self.new) }
     {
-        let name = self.word(Terminal::Named(Place::EntryTarget))?;
+        let name = self.word(Terminal::Named(Role::EntryTarget))?;
         let Some(target) = self.initial.states.find(name) else {
             return Err(self.refusal(SpecKind::UnknownName));
         };
@@ -285,7 +303,7 @@ impl<'s, 'a> Reader<'s, 'a> {
         Ok(target)
     }
 
-    /// Adds an entry. The only error is want of memory.
+    /// Adds an entry. The only error is running out of memory.
     fn add_entry(&mut self, entry: StartedEntry, target: u32) -> Result<(), AllocError>
         requires started { IsStarted self.old entry }
         requires full { length entry.args ≡ entry.arity }
@@ -314,7 +332,8 @@ impl<'s, 'a> Reader<'s, 'a> {
         requires none { entry.old.args ≡ [] }
         requires no_own { entry.old.own ≡ [] }
         ensures no_longer { OnOk result (NoLonger self.old self.new) }
-        ensures reads { Reads (grammar.arguments (grammar.name place.EntryArgument)) (entries.headed entry.old) self.old result (entries.argued entry.new) self.new }
+        ensures reads { Reads (grammar.arguments (grammar.name role.EntryArgument)) (entries.headed entry.old) self.old result
+            (entries.argued entry.new) self.new }
         ensures head { OnOk result (SameHead entry.old entry.new) }
         ensures started { OnOk result (IsStarted self.new entry.new) }
         ensures full { OnOk result (length entry.new.args ≡ entry.new.arity) }
@@ -347,7 +366,8 @@ impl<'s, 'a> Reader<'s, 'a> {
         requires started { IsStarted self.old entry.old }
         requires room { length entry.old.args < entry.old.arity }
         ensures shorter { OnOk result (Shorter self.old self.new) }
-        ensures reads { Reads (grammar.name place.EntryArgument) (entries.arguing entry.old) self.old result (entries.arguing entry.new) self.new }
+        ensures reads { Reads (grammar.name role.EntryArgument) (entries.arguing entry.old) self.old result
+            (entries.arguing entry.new) self.new }
         ensures head { OnOk result (SameHead entry.old entry.new) }
         ensures started { OnOk result (IsStarted self.new entry.new) }
         ensures count { OnOk result (length entry.new.args ≡ length entry.old.args + 1) }
@@ -356,37 +376,37 @@ impl<'s, 'a> Reader<'s, 'a> {
         if self.sees(Terminal::CloseParen) {
             return Err(self.refusal(SpecKind::WrongArity));
         }
-        let arg = self.entry_leaf(Place::EntryArgument, entry.own.as_slice())?;
+        let arg = self.entry_leaf(Role::EntryArgument, entry.own.as_slice())?;
         entry.add_argument(arg, self.bound.as_slice())?;
         Ok(())
     }
 
     /// A variable or a state, where the entry has these variables of its own. Another name is refused as unknown, a 17th variable
     /// as beyond the limit, and a `(` behind the name as not expected.
-    fn entry_leaf(&mut self, place: Place, own: &[u32]) -> Result<Leaf, SpecError>
-        requires place { IsLeafPlace place }
-        requires few { length own.now ≤ 16 }
+    fn entry_leaf(&mut self, role: Role, own: &[u32]) -> Result<Leaf, SpecError>
+        requires role { IsLeafRole role }
+        requires few { length own.now ≤ MAX_VARIABLES }
         ensures shorter { OnOk result (Shorter self.old self.new) }
-        ensures ok { IfOk result (λ leaf. ReadsLeaf place own.now self.old leaf self.new) }
-        ensures err { IfErr result (StopsLeaf place own.now self.old) }
+        ensures ok { IfOk result (λ leaf. ReadsLeaf role own.now self.old leaf self.new) }
+        ensures err { IfErr result (StopsLeaf role own.now self.old) }
         ensures leaf { IfOk result (IsLeaf own.now self.new) }
         ensures same { OnOk result (OnlyTokens self.old self.new) }
     {
-        let leaf = self.next_leaf(place, own)?;
+        let leaf = self.next_leaf(role, own)?;
         self.leaf(SpecKind::Expected)?;
         Ok(leaf)
     }
 
     /// The variable or the state whose name comes next, where the entry has these variables of its own. Another name is refused
     /// as unknown, and a 17th variable as beyond the limit.
-    fn next_leaf(&self, place: Place, own: &[u32]) -> Result<Leaf, SpecError>
-        requires place { IsLeafPlace place }
-        requires few { length own.now ≤ 16 }
-        ensures ok { IfOk result (HasLeaf place own.now self.now) }
-        ensures err { IfErr result (StopsLeaf place own.now self.now) }
+    fn next_leaf(&self, role: Role, own: &[u32]) -> Result<Leaf, SpecError>
+        requires role { IsLeafRole role }
+        requires few { length own.now ≤ MAX_VARIABLES }
+        ensures ok { IfOk result (HasLeaf role own.now self.now) }
+        ensures err { IfErr result (StopsLeaf role own.now self.now) }
     {
-        let name = self.word(Terminal::Named(place))?;
-        match self.meaning(place, name) {
+        let name = self.word(Terminal::Named(role))?;
+        match self.meaning(role, name) {
             Meaning::Variable(variable) if !self.has_room(variable, own) => {
                 Err(self.refusal(SpecKind::Limit(LimitName::Variables)))
             }
@@ -398,11 +418,11 @@ impl<'s, 'a> Reader<'s, 'a> {
 
     /// Whether the variable may stand in an entry that has these variables of its own.
     fn has_room(&self, variable: u32, own: &[u32]) -> bool
-        requires { length own.now ≤ 16 }
+        requires { length own.now ≤ MAX_VARIABLES }
         ensures { result ≡ entries.has_room self.now.bound own.now variable }
     {
         self.is_bound(variable)
             || contains(own, variable)
-            || self.bound.len() + own.len() < MAX_BOUND
+            || self.bound.len() + own.len() < MAX_VARIABLES
     }
 }

@@ -2,26 +2,27 @@
 ghost use Rattle.std.specs.Prelude.{◌≡◌, ◌<◌, [], false, IsTrue, IfOk, IfErr, OnOk, length};
 ghost use Rattle.ranked_terms.specs.Terms.{is_symbol};
 ghost use Rattle.timbuk_grammar.specs.Grammar as grammar;
-ghost use Rattle.timbuk_grammar.specs.declared.terminal.Place.TheVariants as place;
+ghost use Rattle.timbuk_grammar.specs.declared.terminal.Role.TheVariants as role;
 ghost use Rattle.timbuk_grammar.specs.declared.terminal.Terminal.TheVariants as terminal;
-ghost use Rattle.timbuk_reader.specs.Declarations.{no_automaton, state_head, symbol_head, uses, adds};
-ghost use Rattle.timbuk_reader.specs.Rows.{is_in, is_double};
+ghost use Rattle.spec_text.specs.Declarations.{no_automaton, state_head, symbol_head, uses, adds};
+ghost use Rattle.spec_text.specs.Rows.{is_in, is_double};
 ghost use Rattle.timbuk_reader.specs.Kept.{states_are_below};
 ghost use Rattle.timbuk_reader.specs.View.{Shorter, closed, started, state_of};
 ghost use Rattle.timbuk_reader.specs.Reads.{Reads};
-ghost use Rattle.timbuk_reader.specs.AutomatonReads.{IsInApproximation, no_arity, described, prior, target, IsInAutomaton, states_of, with_initial_state, with_trans, with_epsilon, NoLonger, SameTokens, MayDeclare, table_of, UsesState, ReadState, StopsState, headed, ReadArgument, StopsArgument, ReadArguments, StopsArguments};
+ghost use Rattle.timbuk_reader.specs.AutomatonReads.{IsInApproximation, no_arity, described, prior, target, IsInAutomaton};
+ghost use Rattle.timbuk_reader.specs.AutomatonReads.{states_of, with_initial_state, with_trans, with_epsilon, NoLonger};
+ghost use Rattle.timbuk_reader.specs.AutomatonReads.{SameTokens, MayDeclare, table_of, UsesState, ReadState, StopsState};
+ghost use Rattle.timbuk_reader.specs.AutomatonReads.{headed, ReadArgument, StopsArgument, ReadArguments, StopsArguments};
 
-use crate::fault::{LimitName, SpecError, SpecKind};
+use crate::fault::SpecError;
 use crate::meaning::Meaning;
 use crate::names::NameTable;
 use crate::state::{Reader, StartedAutomaton};
 use ranked_terms::Seq;
+use spec_text::{LimitName, MAX_AUTOMATA, SpecKind};
 use std::alloc::{AllocError, Global};
 use ta_core::{Args, MAX_STATES, Trans};
-use timbuk_grammar::{Place, Terminal};
-
-/// The largest number of automata.
-const MAX_AUTOMATA: u32 = 2;
+use timbuk_grammar::{Role, Terminal};
 
 impl StartedAutomaton {
     /// The automaton of which nothing is declared. It takes no memory yet, and grows by `alloc`.
@@ -41,7 +42,13 @@ impl StartedAutomaton {
 
 impl<'s, 'a> Reader<'s, 'a> {
     /// An automaton, from its word on. It is refused where there are two.
-    #[tactic(auto, using(crate::proofs::Steps::then_reads, crate::proofs::Steps::then_stops, crate::proofs::Steps::then_leads, crate::proofs::Steps::later_stops))]
+    #[rattlefmt::skip]
+    #[tactic(auto, using(
+        crate::proofs::parsing::Parts::then_reads,
+        crate::proofs::parsing::Parts::then_stops,
+        crate::proofs::parsing::Parts::then_advances,
+        crate::proofs::parsing::Parts::later_stops
+    ))]
     pub(crate) fn automaton(&mut self) -> Result<(), SpecError>
         ensures shorter { OnOk result (Shorter self.old self.new) }
         ensures reads { Reads grammar.automaton closed self.old result closed self.new }
@@ -49,7 +56,7 @@ impl<'s, 'a> Reader<'s, 'a> {
         self.automaton_word()?;
         self.title()?;
         self.mark(Terminal::States)?;
-        self.states(Place::State)?;
+        self.states(Role::State)?;
         self.description()?;
         self.final_states()?;
         self.transitions()
@@ -72,14 +79,14 @@ impl<'s, 'a> Reader<'s, 'a> {
         Ok(())
     }
 
-    /// The name of a section, which has no effect. It is refused only as a name of more than 255 bytes.
-    #[tactic(auto, using(crate::proofs::StepsTokens::no_word_stops, crate::proofs::StepsTokens::closed_calm))]
+    /// The name of a section, which has no effect. It is refused only as a name of more than `MAX_NAME` bytes.
+    #[tactic(auto, using(crate::proofs::parsing::Tokens::no_word_stops, crate::proofs::parsing::Tokens::closed_calm))]
     pub(crate) fn title(&mut self) -> Result<(), SpecError>
         ensures shorter { OnOk result (Shorter self.old self.new) }
-        ensures reads { Reads (grammar.name place.Title) closed self.old result closed self.new }
+        ensures reads { Reads (grammar.name role.Title) closed self.old result closed self.new }
         ensures same { OnOk result (state_of self.new ≡ state_of self.old) }
     {
-        self.word(Terminal::Named(Place::Title))?;
+        self.word(Terminal::Named(Role::Title))?;
         self.advance();
         Ok(())
     }
@@ -89,91 +96,91 @@ impl<'s, 'a> Reader<'s, 'a> {
 
 impl<'s, 'a> Reader<'s, 'a> {
     /// States of the automaton or, in the approximation's place, of the approximation, as many as there are.
-    pub(crate) fn states(&mut self, place: Place) -> Result<(), SpecError>
-        requires { MayDeclare place self.old }
+    pub(crate) fn states(&mut self, role: Role) -> Result<(), SpecError>
+        requires { MayDeclare role self.old }
         ensures no_longer { OnOk result (NoLonger self.old self.new) }
-        ensures reads { Reads (grammar.many (grammar.state place)) closed self.old result closed self.new }
-        ensures declares { OnOk result (MayDeclare place self.new) }
+        ensures reads { Reads (grammar.many (grammar.state role)) closed self.old result closed self.new }
+        ensures declares { OnOk result (MayDeclare role self.new) }
     {
-        while self.sees(Terminal::Named(place)) {
-            self.declared_state(place)?;
+        while self.sees(Terminal::Named(role)) {
+            self.declared_state(role)?;
         }
         Ok(())
     }
 
     /// A state, and its arity 0, which may be left out.
-    #[tactic(auto, using(crate::proofs::Steps::then_reads, crate::proofs::Steps::then_stops))]
-    fn declared_state(&mut self, place: Place) -> Result<(), SpecError>
-        requires { MayDeclare place self.old }
+    #[tactic(auto, using(crate::proofs::parsing::Parts::then_reads, crate::proofs::parsing::Parts::then_stops))]
+    fn declared_state(&mut self, role: Role) -> Result<(), SpecError>
+        requires { MayDeclare role self.old }
         ensures shorter { OnOk result (Shorter self.old self.new) }
-        ensures reads { Reads (grammar.state place) closed self.old result closed self.new }
-        ensures declares { OnOk result (MayDeclare place self.new) }
+        ensures reads { Reads (grammar.state role) closed self.old result closed self.new }
+        ensures declares { OnOk result (MayDeclare role self.new) }
     {
-        self.state_name(place)?;
+        self.state_name(role)?;
         self.no_arity()
     }
 
-    /// The name of a state, which is added. It is refused where there are 16,384 states, and where a symbol, a variable or
+    /// The name of a state, which is added. It is refused where there are `MAX_STATES` states, and where a symbol, a variable or
     /// one of these states has the name.
-    #[tactic(auto, using(crate::proofs::StepsTokens::no_word_stops, crate::proofs::StepsTokens::closed_calm))]
-    fn state_name(&mut self, place: Place) -> Result<(), SpecError>
-        requires { MayDeclare place self.old }
+    #[tactic(auto, using(crate::proofs::parsing::Tokens::no_word_stops, crate::proofs::parsing::Tokens::closed_calm))]
+    fn state_name(&mut self, role: Role) -> Result<(), SpecError>
+        requires { MayDeclare role self.old }
         ensures shorter { OnOk result (Shorter self.old self.new) }
-        ensures reads { Reads (grammar.name place) closed self.old result closed self.new }
-        ensures declares { OnOk result (MayDeclare place self.new) }
+        ensures reads { Reads (grammar.name role) closed self.old result closed self.new }
+        ensures declares { OnOk result (MayDeclare role self.new) }
     {
-        let name = self.word(Terminal::Named(place))?;
-        if self.table(place).len() >= MAX_STATES {
+        let name = self.word(Terminal::Named(role))?;
+        if self.table(role).len() >= MAX_STATES {
             return Err(self.refusal(SpecKind::Limit(LimitName::States)));
         }
-        if self.is_double(place, name) {
+        if self.is_double(role, name) {
             return Err(self.refusal(SpecKind::DoubleName));
         }
-        self.add_state(place, name)?;
+        self.add_state(role, name)?;
         self.advance();
         Ok(())
     }
 
     /// The states beside which a state is declared.
-    fn table(&self, place: Place) -> &NameTable
-        requires { MayDeclare place self.now }
-        ensures { result.now ≡ table_of place self.now }
+    fn table(&self, role: Role) -> &NameTable
+        requires { MayDeclare role self.now }
+        ensures { result.now ≡ table_of role self.now }
     {
-        match place {
-            Place::State if self.automata == 2 => &self.second.states,
+        match role {
+            Role::State if self.automata == 2 => &self.second.states,
             _ => &self.initial.states,
         }
     }
 
     /// Whether a symbol, a variable or one of the states beside which a state is declared has the name.
-    fn is_double(&self, place: Place, name: &str) -> bool
-        requires { MayDeclare place self.now }
-        ensures { result ≡ is_double (terminal.Named place) name.now (state_of self.now) }
+    fn is_double(&self, role: Role, name: &str) -> bool
+        requires { MayDeclare role self.now }
+        ensures { result ≡ is_double (terminal.Named role) name.now (state_of self.now) }
     {
-        self.is_taken(name) || self.table(place).find(name).is_some()
+        self.is_taken(name) || self.table(role).find(name).is_some()
     }
 
-    /// Adds a state. The only error is want of memory.
-    fn add_state(&mut self, place: Place, name: &str) -> Result<(), AllocError>
-        requires declares { MayDeclare place self.old }
-        requires room { length (table_of place self.old) < 16384 }
-        requires new { is_in (table_of place self.old) name.now ≡ false }
-        ensures ok { OnOk result (state_of self.new ≡ adds (terminal.Named place) name.now (state_of self.old)) }
+    /// Adds a state. The only error is running out of memory.
+    fn add_state(&mut self, role: Role, name: &str) -> Result<(), AllocError>
+        requires declares { MayDeclare role self.old }
+        requires room { length (table_of role self.old) < MAX_STATES }
+        requires new { is_in (table_of role self.old) name.now ≡ false }
+        ensures ok { OnOk result (state_of self.new ≡ adds (terminal.Named role) name.now (state_of self.old)) }
         ensures left { OnOk result (SameTokens self.old self.new) }
-        ensures declares { OnOk result (MayDeclare place self.new) }
+        ensures declares { OnOk result (MayDeclare role self.new) }
     {
-        match place {
-            Place::State => self.add_own_state(name),
+        match role {
+            Role::State => self.add_own_state(name),
             _ => self.add_extra_state(name),
         }
     }
 
-    /// Adds a state to the automaton that is being read. The only error is want of memory.
+    /// Adds a state to the automaton that is being read. The only error is running out of memory.
     fn add_own_state(&mut self, name: &str) -> Result<(), AllocError>
         requires inside { IsInAutomaton self.old }
-        requires room { length (states_of self.old) < 16384 }
+        requires room { length (states_of self.old) < MAX_STATES }
         requires new { is_in (states_of self.old) name.now ≡ false }
-        ensures ok { OnOk result (state_of self.new ≡ adds (terminal.Named place.State) name.now (state_of self.old)) }
+        ensures ok { OnOk result (state_of self.new ≡ adds (terminal.Named role.State) name.now (state_of self.old)) }
         ensures left { OnOk result (SameTokens self.old self.new) }
         ensures inside { OnOk result (IsInAutomaton self.new) }
     {
@@ -184,10 +191,10 @@ impl<'s, 'a> Reader<'s, 'a> {
         }
     }
 
-    /// Adds a state behind those of the initial automaton. The only error is want of memory.
+    /// Adds a state behind those of the initial automaton. The only error is running out of memory.
     fn add_initial_state(&mut self, name: &str) -> Result<(), AllocError>
         requires early { self.old.entries ≡ [] }
-        requires room { length self.old.initial.states < 16384 }
+        requires room { length self.old.initial.states < MAX_STATES }
         requires new { is_in self.old.initial.states name.now ≡ false }
         ensures ok { OnOk result (state_of self.new ≡ with_initial_state name.now (state_of self.old)) }
         ensures left { OnOk result (SameTokens self.old self.new) }
@@ -195,12 +202,13 @@ impl<'s, 'a> Reader<'s, 'a> {
         self.initial.states.add(name)
     }
 
-    /// Adds a state of the approximation behind those of the initial automaton. The only error is want of memory.
+    /// Adds a state of the approximation behind those of the initial automaton. The only error is running out of memory.
     fn add_extra_state(&mut self, name: &str) -> Result<(), AllocError>
         requires inside { IsInApproximation self.old }
-        requires room { length self.old.initial.states < 16384 }
+        requires room { length self.old.initial.states < MAX_STATES }
         requires new { is_in self.old.initial.states name.now ≡ false }
-        ensures ok { OnOk result (state_of self.new ≡ adds (terminal.Named place.ApproximationState) name.now (state_of self.old)) }
+        ensures ok { OnOk result (state_of self.new
+            ≡ adds (terminal.Named role.ApproximationState) name.now (state_of self.old)) }
         ensures left { OnOk result (SameTokens self.old self.new) }
         ensures inside { OnOk result (IsInApproximation self.new) }
     {
@@ -210,7 +218,15 @@ impl<'s, 'a> Reader<'s, 'a> {
     }
 
     /// The arity 0 of a state, which may be left out.
-    #[tactic(auto, using(crate::proofs::Steps::then_reads, crate::proofs::Steps::then_stops, crate::proofs::Steps::then_head, crate::proofs::Steps::maybe_reads, crate::proofs::Steps::maybe_stops, crate::proofs::Steps::maybe_none))]
+    #[rattlefmt::skip]
+    #[tactic(auto, using(
+        crate::proofs::parsing::Parts::then_reads,
+        crate::proofs::parsing::Parts::then_stops,
+        crate::proofs::parsing::Parts::then_head,
+        crate::proofs::parsing::Parts::maybe_reads,
+        crate::proofs::parsing::Parts::maybe_stops,
+        crate::proofs::parsing::Parts::maybe_none
+    ))]
     fn no_arity(&mut self) -> Result<(), SpecError>
         ensures no_longer { OnOk result (NoLonger self.old self.new) }
         ensures reads { Reads no_arity closed self.old result closed self.new }
@@ -229,17 +245,17 @@ impl<'s, 'a> Reader<'s, 'a> {
 impl<'s, 'a> Reader<'s, 'a> {
     /// A state of the automaton, and its number. Another name is refused as unknown, and a `(` behind the name as not
     /// expected.
-    #[tactic(auto, using(crate::proofs::StepsAutomaton::no_state_word))]
-    fn state(&mut self, place: Place) -> Result<u32, SpecError>
-        requires { UsesState place }
+    #[tactic(auto, using(crate::proofs::parsing::Automaton::no_state_word))]
+    fn state(&mut self, role: Role) -> Result<u32, SpecError>
+        requires { UsesState role }
         ensures shorter { OnOk result (Shorter self.old self.new) }
-        ensures ok { IfOk result (λ state. ReadState place self.old state self.new) }
-        ensures err { IfErr result (StopsState place self.old) }
+        ensures ok { IfOk result (λ state. ReadState role self.old state self.new) }
+        ensures err { IfErr result (StopsState role self.old) }
         ensures below { IfOk result (λ state. state < length (states_of self.new)) }
         ensures same { OnOk result (state_of self.new ≡ state_of self.old) }
     {
-        let name = self.word(Terminal::Named(place))?;
-        let Meaning::State(state) = self.meaning(place, name) else {
+        let name = self.word(Terminal::Named(role))?;
+        let Meaning::State(state) = self.meaning(role, name) else {
             return Err(self.refusal(SpecKind::UnknownName));
         };
         self.leaf(SpecKind::Expected)?;
@@ -247,7 +263,15 @@ impl<'s, 'a> Reader<'s, 'a> {
     }
 
     /// The descriptions of states, if there are any, which have no effect.
-    #[tactic(auto, using(crate::proofs::Steps::then_reads, crate::proofs::Steps::then_stops, crate::proofs::Steps::then_head, crate::proofs::Steps::maybe_reads, crate::proofs::Steps::maybe_stops, crate::proofs::Steps::maybe_none))]
+    #[rattlefmt::skip]
+    #[tactic(auto, using(
+        crate::proofs::parsing::Parts::then_reads,
+        crate::proofs::parsing::Parts::then_stops,
+        crate::proofs::parsing::Parts::then_head,
+        crate::proofs::parsing::Parts::maybe_reads,
+        crate::proofs::parsing::Parts::maybe_stops,
+        crate::proofs::parsing::Parts::maybe_none
+    ))]
     fn description(&mut self) -> Result<(), SpecError>
         ensures no_longer { OnOk result (NoLonger self.old self.new) }
         ensures reads { Reads (grammar.maybe grammar.description) closed self.old result closed self.new }
@@ -261,32 +285,53 @@ impl<'s, 'a> Reader<'s, 'a> {
     }
 
     /// States with their descriptions, as many as there are.
-    #[tactic(auto, using(crate::proofs::Steps::turns_start, crate::proofs::Steps::turns_again, crate::proofs::Steps::turns_stop, crate::proofs::Steps::turns_err, crate::proofs::Steps::then_head))]
+    #[rattlefmt::skip]
+    #[tactic(auto, using(
+        crate::proofs::parsing::Parts::turns_start,
+        crate::proofs::parsing::Parts::turns_again,
+        crate::proofs::parsing::Parts::turns_stop,
+        crate::proofs::parsing::Parts::turns_err,
+        crate::proofs::parsing::Parts::then_head
+    ))]
     fn all_described(&mut self) -> Result<(), SpecError>
         ensures no_longer { OnOk result (NoLonger self.old self.new) }
         ensures reads { Reads (grammar.many described) closed self.old result closed self.new }
         ensures same { OnOk result (state_of self.new ≡ state_of self.old) }
     {
-        while self.sees(Terminal::Named(Place::DescribedState)) {
+        while self.sees(Terminal::Named(Role::DescribedState)) {
             self.described_state()?;
         }
         Ok(())
     }
 
     /// A state of the automaton with its description.
-    #[tactic(auto, using(crate::proofs::Steps::then_reads, crate::proofs::Steps::then_stops, crate::proofs::Steps::then_leads, crate::proofs::Steps::later_stops, crate::proofs::StepsAutomaton::described_leads, crate::proofs::StepsAutomaton::stops_closed))]
+    #[rattlefmt::skip]
+    #[tactic(auto, using(
+        crate::proofs::parsing::Parts::then_reads,
+        crate::proofs::parsing::Parts::then_stops,
+        crate::proofs::parsing::Parts::then_advances,
+        crate::proofs::parsing::Parts::later_stops,
+        crate::proofs::parsing::Automaton::described_advances,
+        crate::proofs::parsing::Automaton::stops_closed
+    ))]
     fn described_state(&mut self) -> Result<(), SpecError>
         ensures shorter { OnOk result (Shorter self.old self.new) }
         ensures reads { Reads described closed self.old result closed self.new }
         ensures same { OnOk result (state_of self.new ≡ state_of self.old) }
     {
-        self.state(Place::DescribedState)?;
+        self.state(Role::DescribedState)?;
         self.mark(Terminal::Colon)?;
         self.mark(Terminal::Quoted)
     }
 
     /// The final states.
-    #[tactic(auto, using(crate::proofs::Steps::then_reads, crate::proofs::Steps::then_stops, crate::proofs::Steps::then_leads, crate::proofs::Steps::later_stops))]
+    #[rattlefmt::skip]
+    #[tactic(auto, using(
+        crate::proofs::parsing::Parts::then_reads,
+        crate::proofs::parsing::Parts::then_stops,
+        crate::proofs::parsing::Parts::then_advances,
+        crate::proofs::parsing::Parts::later_stops
+    ))]
     fn final_states(&mut self) -> Result<(), SpecError>
         requires { IsInAutomaton self.old }
         ensures shorter { OnOk result (Shorter self.old self.new) }
@@ -299,37 +344,44 @@ impl<'s, 'a> Reader<'s, 'a> {
     }
 
     /// Names of final states, as many as there are.
-    #[tactic(auto, using(crate::proofs::Steps::turns_start, crate::proofs::Steps::turns_again, crate::proofs::Steps::turns_stop, crate::proofs::Steps::turns_err, crate::proofs::Steps::one_head))]
+    #[rattlefmt::skip]
+    #[tactic(auto, using(
+        crate::proofs::parsing::Parts::turns_start,
+        crate::proofs::parsing::Parts::turns_again,
+        crate::proofs::parsing::Parts::turns_stop,
+        crate::proofs::parsing::Parts::turns_err,
+        crate::proofs::parsing::Parts::one_head
+    ))]
     fn all_finals(&mut self) -> Result<(), SpecError>
         requires { IsInAutomaton self.old }
         ensures no_longer { OnOk result (NoLonger self.old self.new) }
-        ensures reads { Reads (grammar.many (grammar.name place.FinalState)) closed self.old result closed self.new }
+        ensures reads { Reads (grammar.many (grammar.name role.FinalState)) closed self.old result closed self.new }
         ensures inside { OnOk result (IsInAutomaton self.new) }
     {
-        while self.sees(Terminal::Named(Place::FinalState)) {
+        while self.sees(Terminal::Named(Role::FinalState)) {
             self.final_state()?;
         }
         Ok(())
     }
 
     /// A final state, which is added.
-    #[tactic(auto, using(crate::proofs::StepsAutomaton::final_leads, crate::proofs::StepsAutomaton::stops_closed))]
+    #[tactic(auto, using(crate::proofs::parsing::Automaton::final_advances, crate::proofs::parsing::Automaton::stops_closed))]
     fn final_state(&mut self) -> Result<(), SpecError>
         requires { IsInAutomaton self.old }
         ensures shorter { OnOk result (Shorter self.old self.new) }
-        ensures reads { Reads (grammar.name place.FinalState) closed self.old result closed self.new }
+        ensures reads { Reads (grammar.name role.FinalState) closed self.old result closed self.new }
         ensures inside { OnOk result (IsInAutomaton self.new) }
     {
-        let state = self.state(Place::FinalState)?;
+        let state = self.state(Role::FinalState)?;
         self.add_final(state)?;
         Ok(())
     }
 
-    /// Adds a final state to the automaton that is being read. The only error is want of memory.
+    /// Adds a final state to the automaton that is being read. The only error is running out of memory.
     fn add_final(&mut self, state: u32) -> Result<(), AllocError>
         requires inside { IsInAutomaton self.old }
         requires below { state < length (states_of self.old) }
-        ensures ok { OnOk result (state_of self.new ≡ uses place.FinalState state (state_of self.old)) }
+        ensures ok { OnOk result (state_of self.new ≡ uses role.FinalState state (state_of self.old)) }
         ensures left { OnOk result (SameTokens self.old self.new) }
     {
         if self.automata == 2 {
@@ -344,7 +396,13 @@ impl<'s, 'a> Reader<'s, 'a> {
 
 impl<'s, 'a> Reader<'s, 'a> {
     /// The transitions, those under `Prior` first.
-    #[tactic(auto, using(crate::proofs::Steps::then_reads, crate::proofs::Steps::then_stops, crate::proofs::Steps::then_leads, crate::proofs::Steps::later_stops))]
+    #[rattlefmt::skip]
+    #[tactic(auto, using(
+        crate::proofs::parsing::Parts::then_reads,
+        crate::proofs::parsing::Parts::then_stops,
+        crate::proofs::parsing::Parts::then_advances,
+        crate::proofs::parsing::Parts::later_stops
+    ))]
     fn transitions(&mut self) -> Result<(), SpecError>
         requires { IsInAutomaton self.old }
         ensures no_longer { OnOk result (NoLonger self.old self.new) }
@@ -356,7 +414,15 @@ impl<'s, 'a> Reader<'s, 'a> {
     }
 
     /// The transitions under `Prior`, if there are any.
-    #[tactic(auto, using(crate::proofs::Steps::then_reads, crate::proofs::Steps::then_stops, crate::proofs::Steps::then_head, crate::proofs::Steps::maybe_reads, crate::proofs::Steps::maybe_stops, crate::proofs::Steps::maybe_none))]
+    #[rattlefmt::skip]
+    #[tactic(auto, using(
+        crate::proofs::parsing::Parts::then_reads,
+        crate::proofs::parsing::Parts::then_stops,
+        crate::proofs::parsing::Parts::then_head,
+        crate::proofs::parsing::Parts::maybe_reads,
+        crate::proofs::parsing::Parts::maybe_stops,
+        crate::proofs::parsing::Parts::maybe_none
+    ))]
     fn prior(&mut self) -> Result<(), SpecError>
         requires { IsInAutomaton self.old }
         ensures no_longer { OnOk result (NoLonger self.old self.new) }
@@ -371,14 +437,21 @@ impl<'s, 'a> Reader<'s, 'a> {
     }
 
     /// Transitions, as many as there are.
-    #[tactic(auto, using(crate::proofs::Steps::turns_start, crate::proofs::Steps::turns_again, crate::proofs::Steps::turns_stop, crate::proofs::Steps::turns_err, crate::proofs::Steps::then_head))]
+    #[rattlefmt::skip]
+    #[tactic(auto, using(
+        crate::proofs::parsing::Parts::turns_start,
+        crate::proofs::parsing::Parts::turns_again,
+        crate::proofs::parsing::Parts::turns_stop,
+        crate::proofs::parsing::Parts::turns_err,
+        crate::proofs::parsing::Parts::then_head
+    ))]
     fn all_transitions(&mut self) -> Result<(), SpecError>
         requires { IsInAutomaton self.old }
         ensures no_longer { OnOk result (NoLonger self.old self.new) }
         ensures reads { Reads (grammar.many grammar.transition) closed self.old result closed self.new }
         ensures inside { OnOk result (IsInAutomaton self.new) }
     {
-        while self.sees(Terminal::Named(Place::TransitionHead)) {
+        while self.sees(Terminal::Named(Role::TransitionHead)) {
             self.transition()?;
         }
         Ok(())
@@ -393,8 +466,8 @@ impl<'s, 'a> Reader<'s, 'a> {
         ensures reads { Reads grammar.transition closed self.old result closed self.new }
         ensures inside { OnOk result (IsInAutomaton self.new) }
     {
-        let name = self.word(Terminal::Named(Place::TransitionHead))?;
-        match self.meaning(Place::TransitionHead, name) {
+        let name = self.word(Terminal::Named(Role::TransitionHead))?;
+        match self.meaning(Role::TransitionHead, name) {
             Meaning::State(from) => {
                 self.leaf(SpecKind::Expected)?;
                 self.epsilon_target(from)
@@ -413,7 +486,15 @@ impl<'s, 'a> Reader<'s, 'a> {
     }
 
     /// The target of an epsilon transition from this state, which is added.
-    #[tactic(auto, using(crate::proofs::Steps::then_stops, crate::proofs::Steps::later_stops, crate::proofs::StepsTokens::mark_leads, crate::proofs::StepsTokens::mark_stops, crate::proofs::StepsAutomaton::headed_calm, crate::proofs::StepsAutomaton::target_stops))]
+    #[rattlefmt::skip]
+    #[tactic(auto, using(
+        crate::proofs::parsing::Parts::then_stops,
+        crate::proofs::parsing::Parts::later_stops,
+        crate::proofs::parsing::Tokens::mark_advances,
+        crate::proofs::parsing::Tokens::mark_stops,
+        crate::proofs::parsing::Automaton::headed_calm,
+        crate::proofs::parsing::Automaton::target_stops
+    ))]
     fn epsilon_target(&mut self, from: u32) -> Result<(), SpecError>
         requires inside { IsInAutomaton self.old }
         requires below { from < length (states_of self.old) }
@@ -422,13 +503,21 @@ impl<'s, 'a> Reader<'s, 'a> {
         ensures inside { OnOk result (IsInAutomaton self.new) }
     {
         self.mark(Terminal::Arrow)?;
-        let to = self.state(Place::TransitionTarget)?;
+        let to = self.state(Role::TransitionTarget)?;
         self.add_epsilon(from, to)?;
         Ok(())
     }
 
     /// The target of a transition from this symbol with these arguments, which is added.
-    #[tactic(auto, using(crate::proofs::Steps::then_stops, crate::proofs::Steps::later_stops, crate::proofs::StepsTokens::mark_leads, crate::proofs::StepsTokens::mark_stops, crate::proofs::StepsAutomaton::headed_calm, crate::proofs::StepsAutomaton::target_stops))]
+    #[rattlefmt::skip]
+    #[tactic(auto, using(
+        crate::proofs::parsing::Parts::then_stops,
+        crate::proofs::parsing::Parts::later_stops,
+        crate::proofs::parsing::Tokens::mark_advances,
+        crate::proofs::parsing::Tokens::mark_stops,
+        crate::proofs::parsing::Automaton::headed_calm,
+        crate::proofs::parsing::Automaton::target_stops
+    ))]
     fn transition_target(&mut self, sym: u32, args: Seq<u32>) -> Result<(), SpecError>
         requires inside { IsInAutomaton self.old }
         requires over { IsTrue (is_symbol self.old.signature sym (length args)) }
@@ -438,13 +527,13 @@ impl<'s, 'a> Reader<'s, 'a> {
         ensures inside { OnOk result (IsInAutomaton self.new) }
     {
         self.mark(Terminal::Arrow)?;
-        let to = self.state(Place::TransitionTarget)?;
+        let to = self.state(Role::TransitionTarget)?;
         let args = Args::from_slice(self.alloc, args.as_slice())?;
         self.add_transition(Trans { sym, args, to })?;
         Ok(())
     }
 
-    /// Adds an epsilon transition to the automaton that is being read. The only error is want of memory.
+    /// Adds an epsilon transition to the automaton that is being read. The only error is running out of memory.
     fn add_epsilon(&mut self, from: u32, to: u32) -> Result<(), AllocError>
         requires inside { IsInAutomaton self.old }
         requires from_below { from < length (states_of self.old) }
@@ -459,7 +548,7 @@ impl<'s, 'a> Reader<'s, 'a> {
         }
     }
 
-    /// Adds a transition to the automaton that is being read. The only error is want of memory.
+    /// Adds a transition to the automaton that is being read. The only error is running out of memory.
     fn add_transition(&mut self, trans: Trans) -> Result<(), AllocError>
         requires inside { IsInAutomaton self.old }
         requires over { IsTrue (is_symbol self.old.signature trans.sym (length trans.args)) }
@@ -508,6 +597,6 @@ impl<'s, 'a> Reader<'s, 'a> {
         if self.sees(Terminal::CloseParen) {
             return Err(self.refusal(SpecKind::WrongArity));
         }
-        self.state(Place::TransitionArgument)
+        self.state(Role::TransitionArgument)
     }
 }

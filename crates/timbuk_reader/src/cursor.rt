@@ -4,16 +4,18 @@ ghost use Rattle.ranked_terms.specs.Words.{IsNameText};
 ghost use Rattle.timbuk_lex.specs.Laws.{HasWord};
 ghost use Rattle.timbuk_lex.specs.declared.lexeme.TokenKind.TheVariants.{Word};
 ghost use Rattle.timbuk_grammar.specs.Grammar as grammar;
-ghost use Rattle.timbuk_reader.specs.Rows.{is_closed_word};
-ghost use Rattle.timbuk_reader.specs.Reading.{fault};
-ghost use Rattle.timbuk_reader.specs.View.{Shorter, closed, end_of, end_fault, state_of, sees, refusal};
+ghost use Rattle.spec_text.specs.Rows.{is_closed_word};
+ghost use Rattle.spec_text.specs.Rows.{fault};
+ghost use Rattle.timbuk_reader.specs.View.{Shorter, closed, end_of, end_fault, state_of, refusal};
+ghost use Rattle.spec_text.specs.Reading.{sees};
 ghost use Rattle.timbuk_reader.specs.Reads.{Reads, Takes, IsMark, IsWordly, Stands, HasNoWord};
 
-use crate::fault::{LimitName, SpecError, SpecFault, SpecKind, lexical_kind};
+use crate::fault::{SpecError, lexical_kind};
 use crate::state::Reader;
 use ranked_terms::MAX_NAME;
+use spec_text::{LimitName, SpecFault, SpecKind};
 use timbuk_grammar::{Terminal, is_closed_word};
-use timbuk_lex::{Ending, Lexeme, TokenKind, end_of};
+use timbuk_lex::{Ending, Lexeme, TokenKind, end_of, word_law};
 
 /// The bytes of a word, as a text.
 fn text_of<'a>(token: &Lexeme<'a>) -> &'a str
@@ -21,11 +23,13 @@ fn text_of<'a>(token: &Lexeme<'a>) -> &'a str
     requires spelled { HasWord token.now }
     ensures { result.now ≡ token.now.text }
 {
+    // For the proof: a word is UTF-8.
+    word_law();
     str::from_utf8(token.text.as_slice()).unwrap()
 }
 
 impl<'s, 'a> Reader<'s, 'a> {
-    /// The fault at the next token, where it is of this kind: a closed word is told as one. At the end the fault is the
+    /// The fault at the next token, where it is of this kind: a closed word is reported as one. At the end the fault is the
     /// byte that begins no token, or that a token is expected.
     pub(crate) fn refusal(&self, kind: SpecKind) -> SpecError
         ensures { result ≡ SpecError.Fault (refusal kind self.now) }
@@ -119,7 +123,7 @@ impl<'s, 'a> Reader<'s, 'a> {
     }
 
     /// The word that stands next, a name or an arity. Any other token is refused as not expected, and a word of more than
-    /// 255 bytes as too long.
+    /// `MAX_NAME` bytes as too long.
     pub(crate) fn word(&self, terminal: Terminal) -> Result<&'a str, SpecError>
         requires { IsWordly terminal }
         ensures ok { IfOk result (λ text. Stands terminal self.now text.now) }

@@ -1,92 +1,17 @@
-//! Faults of an input text: what is wrong, and where.
+//! Why no specification was read.
 ghost use Rattle.std.specs.Prelude.{◌≡◌};
-ghost use Rattle.timbuk_reader.specs.Reading as reading;
+ghost use Rattle.spec_text.specs.Rows as rows;
 
+use spec_text::{SpecFault, SpecKind};
 use std::alloc::AllocError;
 use timbuk_lex::LexFault;
-
-/// What is wrong with an input text. Where several of these fit one place, the first in this order is told.
-#[derive(Clone, Copy, Debug, Drop, PartialEq, Eq)]
-pub enum SpecKind {
-    /// A byte outside comments and quoted texts begins no token; a `-` without `>` is one.
-    BadByte,
-    /// A comment begins that does not end.
-    OpenComment,
-    /// A quoted text begins that does not end.
-    OpenText,
-    /// The token is a closed word.
-    UnknownSection,
-    /// The text ends where it may, and has no automaton.
-    NoInitial,
-    /// A symbol stands with another number of arguments than its arity says.
-    WrongArity,
-    /// The grammar does not have the token, or the end, there. So too for a `(` behind a variable or a state, and for an
-    /// `Approximation` in front of the first automaton.
-    Expected,
-    /// The token would pass this limit.
-    Limit(LimitName),
-    /// No symbol, variable or state that is allowed in this place has the name.
-    UnknownName,
-    /// A symbol, variable or state from which this one has to differ has the name already.
-    DoubleName,
-    /// The left side of a rule begins with a variable.
-    VariableLeft,
-    /// A variable stands a second time in the left side of a rule.
-    NotLeftLinear,
-    /// A variable stands in the right side of a rule and not in its left side.
-    FreeVariable,
-}
-
-/// The limits of an input text. Where several are passed at one token, the first in this order is told.
-#[derive(Clone, Copy, Debug, Drop, PartialEq, Eq)]
-pub enum LimitName {
-    /// The bytes of a name, of the name of a section or of an arity: 255.
-    NameBytes,
-    /// The symbols: 4,096.
-    Symbols,
-    /// The variables that are declared: 1,024.
-    Declared,
-    /// An arity: 16.
-    Arity,
-    /// How deep symbols with arguments are nested: 100.
-    Nesting,
-    /// The variables of a rule, of an equation or of an entry: 16.
-    Variables,
-    /// The rules: 4,096.
-    Rules,
-    /// The equations: 1,024.
-    Equations,
-    /// The entries of the approximation: 1,024.
-    Entries,
-    /// The states of an automaton, the approximation's among those of the first: 16,384.
-    States,
-    /// The automata: 2.
-    Automata,
-    /// The sections `TRS`: 1.
-    Systems,
-    /// The sections `Equations`: 1.
-    EquationSections,
-    /// The sections `Approximation`: 1.
-    Approximations,
-}
-
-/// A fault of an input text: its kind and its place.
-#[derive(Clone, Copy, Debug, Drop, PartialEq, Eq)]
-pub struct SpecFault {
-    /// What is wrong.
-    pub kind: SpecKind,
-    /// The line, counted from 1.
-    pub line: u32,
-    /// The column, counted in bytes of the line from 1.
-    pub column: u32,
-}
 
 /// Why no specification was read.
 #[derive(Clone, Copy, Debug, Drop, PartialEq, Eq)]
 pub enum SpecError {
     /// The text has this fault, and none before it.
     Fault(SpecFault),
-    /// There is no memory.
+    /// The memory ran out.
     Memory,
 }
 
@@ -103,7 +28,7 @@ impl From<AllocError> for SpecError {
 
 /// What is wrong with a text at a byte that begins no token.
 pub(crate) fn lexical_kind(why: LexFault) -> SpecKind
-    ensures { result ≡ reading.lexical_kind why }
+    ensures { result ≡ rows.lexical_kind why }
 {
     match why {
         LexFault::BadByte => SpecKind::BadByte,

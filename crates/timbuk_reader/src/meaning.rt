@@ -2,13 +2,13 @@
 ghost use Rattle.std.specs.Prelude.{◌≡◌, [], Some, None, if◌then◌else◌, position, MatchOption};
 ghost use Rattle.std.specs.Str.{bytes_eq};
 ghost use Rattle.ranked_terms.specs.Names.{number_of, arity_of};
-ghost use Rattle.timbuk_reader.specs.Declarations.{allows_symbol, allows_variable, states_at, meaning};
+ghost use Rattle.spec_text.specs.Declarations.{allows_symbol, allows_variable, states_at, meaning};
 ghost use Rattle.timbuk_reader.specs.Meanings.{meant_by};
 ghost use Rattle.timbuk_reader.specs.View.{state_of};
 
 use crate::names::NameTable;
 use crate::state::Reader;
-use timbuk_grammar::Place;
+use timbuk_grammar::Role;
 
 /// What a name stands for in its place.
 #[derive(Clone, Copy, Debug, Drop)]
@@ -24,59 +24,59 @@ pub(crate) enum Meaning {
 }
 
 /// Whether a symbol may stand in the place.
-fn allows_symbol(place: Place) -> bool
-    ensures { result ≡ allows_symbol place }
+fn allows_symbol(role: Role) -> bool
+    ensures { result ≡ allows_symbol role }
 {
     matches!(
-        place,
-        Place::LeftSide
-            | Place::RightSide
-            | Place::EquationLeft
-            | Place::EquationRight
-            | Place::TransitionHead
-            | Place::EntryWhole
-            | Place::EntryHead
+        role,
+        Role::LeftSide
+            | Role::RightSide
+            | Role::EquationLeft
+            | Role::EquationRight
+            | Role::TransitionHead
+            | Role::EntryWhole
+            | Role::EntryHead
     )
 }
 
 /// Whether a variable may stand in the place.
-fn allows_variable(place: Place) -> bool
-    ensures { result ≡ allows_variable place }
+fn allows_variable(role: Role) -> bool
+    ensures { result ≡ allows_variable role }
 {
     matches!(
-        place,
-        Place::LeftSide
-            | Place::RightSide
-            | Place::EquationLeft
-            | Place::EquationRight
-            | Place::EntryWhole
-            | Place::EntryAt
-            | Place::EntryArgument
+        role,
+        Role::LeftSide
+            | Role::RightSide
+            | Role::EquationLeft
+            | Role::EquationRight
+            | Role::EntryWhole
+            | Role::EntryAt
+            | Role::EntryArgument
     )
 }
 
 impl<'s, 'a> Reader<'s, 'a> {
     /// What the name stands for in the place: a symbol, a variable or a state, where it may stand there.
-    pub(crate) fn meaning(&self, place: Place, name: &str) -> Meaning
-        ensures { meant_by result ≡ meaning (state_of self.now) place name.now }
+    pub(crate) fn meaning(&self, role: Role, name: &str) -> Meaning
+        ensures { meant_by result ≡ meaning (state_of self.now) role name.now }
     {
-        if let Some(sym) = self.symbol_at(place, name) {
+        if let Some(sym) = self.symbol_at(role, name) {
             return Meaning::Symbol(sym, self.signature.arity(sym).unwrap_or(0));
         }
-        if let Some(variable) = self.variable_at(place, name) {
+        if let Some(variable) = self.variable_at(role, name) {
             return Meaning::Variable(variable);
         }
-        match self.state_at(place, name) {
+        match self.state_at(role, name) {
             Some(state) => Meaning::State(state),
             None => Meaning::Unknown,
         }
     }
 
     /// The number of the symbol of this name. `None` where there is none, or where none may stand.
-    fn symbol_at(&self, place: Place, name: &str) -> Option<u32>
-        ensures { result ≡ (if allows_symbol place then number_of self.now.signature name.now else None) }
+    fn symbol_at(&self, role: Role, name: &str) -> Option<u32>
+        ensures { result ≡ (if allows_symbol role then number_of self.now.signature name.now else None) }
     {
-        if allows_symbol(place) {
+        if allows_symbol(role) {
             self.signature.find(name)
         } else {
             None
@@ -84,10 +84,10 @@ impl<'s, 'a> Reader<'s, 'a> {
     }
 
     /// The number of the variable of this name. `None` where there is none, or where none may stand.
-    fn variable_at(&self, place: Place, name: &str) -> Option<u32>
-        ensures { result ≡ (if allows_variable place then position (bytes_eq name.now) self.now.variables else None) }
+    fn variable_at(&self, role: Role, name: &str) -> Option<u32>
+        ensures { result ≡ (if allows_variable role then position (bytes_eq name.now) self.now.variables else None) }
     {
-        if allows_variable(place) {
+        if allows_variable(role) {
             self.variables.find(name)
         } else {
             None
@@ -95,30 +95,31 @@ impl<'s, 'a> Reader<'s, 'a> {
     }
 
     /// The number of the state of this name. `None` where there is none, or where none may stand.
-    fn state_at(&self, place: Place, name: &str) -> Option<u32>
-        ensures { result ≡ position (bytes_eq name.now) (states_at (state_of self.now) place) }
+    fn state_at(&self, role: Role, name: &str) -> Option<u32>
+        ensures { result ≡ position (bytes_eq name.now) (states_at (state_of self.now) role) }
     {
-        self.states_at(place)?.find(name)
+        self.states_at(role)?.find(name)
     }
 
     /// The states that may stand in the place: those of the automaton that is declared last, or those of the initial
     /// automaton and of the approximation. `None` where no state may stand.
-    fn states_at(&self, place: Place) -> Option<&NameTable>
-        ensures { MatchOption result (states_at (state_of self.now) place ≡ []) (λ states. states.now ≡ states_at (state_of self.now) place) }
+    fn states_at(&self, role: Role) -> Option<&NameTable>
+        ensures { MatchOption result (states_at (state_of self.now) role ≡ [])
+            (λ states. states.now ≡ states_at (state_of self.now) role) }
     {
-        match place {
-            Place::DescribedState
-            | Place::FinalState
-            | Place::TransitionHead
-            | Place::TransitionArgument
-            | Place::TransitionTarget => {
+        match role {
+            Role::DescribedState
+            | Role::FinalState
+            | Role::TransitionHead
+            | Role::TransitionArgument
+            | Role::TransitionTarget => {
                 if self.automata == 2 {
                     Some(&self.second.states)
                 } else {
                     Some(&self.initial.states)
                 }
             }
-            Place::EntryWhole | Place::EntryAt | Place::EntryArgument | Place::EntryTarget => {
+            Role::EntryWhole | Role::EntryAt | Role::EntryArgument | Role::EntryTarget => {
                 Some(&self.initial.states)
             }
             _ => None,

@@ -7,8 +7,9 @@ use indexmap::IndexSet;
 use ranked_terms::{Name, Seq};
 use std::alloc::{AllocError, Global};
 use std::marker::Model;
+use ta_core::MAX_STATES;
 
-/// Names, numbered from 0 in the order in which they were added, no name twice, at most 16,384. Contracts see the list of
+/// Names, numbered from 0 in the order in which they were added, no name twice, at most `MAX_STATES`. Contracts see the list of
 /// the names.
 #[derive(Drop)]
 pub(crate) struct NameTable {
@@ -41,7 +42,7 @@ impl NameTable {
     /// The number of names. Its contract says besides what always holds of a table.
     pub(crate) fn len(&self) -> u32
         ensures value { result ≡ length self.now }
-        ensures few { length self.now ≤ 16384 }
+        ensures few { length self.now ≤ MAX_STATES }
         ensures distinct { IsDistinct bytes_eq self.now }
     {
         self.names.len() as u32
@@ -55,9 +56,9 @@ impl NameTable {
         Some(number as u32)
     }
 
-    /// Adds a name that is not there as the last. At want of memory, the only error, the table stays as it was.
+    /// Adds a name that is not there as the last. When the memory runs out, the only error, the table stays as it was.
     pub(crate) fn add(&mut self, name: &str) -> Result<(), AllocError>
-        requires room { length self.old < 16384 }
+        requires room { length self.old < MAX_STATES }
         requires new { position (bytes_eq name.now) self.old ≡ None }
         ensures ok { OnOk result (self.new ≡ self.old ++ name.now ∷ []) }
         ensures err { OnErr result (self.new ≡ self.old) }
@@ -67,7 +68,7 @@ impl NameTable {
         Ok(())
     }
 
-    /// The names in order, as a sequence of their own. The only error is want of memory.
+    /// The names in order, as a sequence of their own. The only error is running out of memory.
     pub(crate) fn to_names(&self, alloc: Global) -> Result<Seq<Name>, AllocError>
         ensures { IfOk result (λ names. names ≡ self.now) }
     {

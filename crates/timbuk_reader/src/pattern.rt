@@ -2,52 +2,43 @@
 ghost use Rattle.std.specs.Prelude.{◌≡◌, ◌<◌, ◌≤◌, ◌==◌, [], false, IfOk, IfErr, OnOk, MatchResult, length};
 ghost use Rattle.std.specs.List.{list_any};
 ghost use Rattle.timbuk_grammar.specs.declared.terminal.Terminal.TheVariants as terminal;
-ghost use Rattle.timbuk_reader.specs.Declarations.{has, with_variable, a_variable, a_state, a_symbol};
+ghost use Rattle.spec_text.specs.Declarations.{has, with_variable, a_variable, a_state, a_symbol};
 ghost use Rattle.timbuk_reader.specs.Meanings.{meant_by};
 ghost use Rattle.timbuk_reader.specs.Reads.{Took};
-ghost use Rattle.timbuk_reader.specs.View.{Shorter, sees};
-ghost use Rattle.timbuk_reader.specs.Patterns.{IsPatternPlace, HasHead, Breaks, BuildsAt, AppliesAll, Fits, AllFit, IsNoVariable, LacksArguments, LacksArgument, LacksEnd, EndsName, SameBut};
+ghost use Rattle.timbuk_reader.specs.View.{Shorter};
+ghost use Rattle.spec_text.specs.Reading.{sees};
+ghost use Rattle.timbuk_reader.specs.Patterns.{IsPatternRole, HasHead, Breaks, BuildsAt, AppliesAll, Fits, AllFit};
+ghost use Rattle.timbuk_reader.specs.Patterns.{IsNoVariable, LacksArguments, LacksArgument, LacksEnd, EndsName, SameBut};
 ghost use Rattle.timbuk_reader.specs.Patterns as rows;
 
-use crate::fault::{LimitName, SpecError, SpecKind};
+use crate::fault::SpecError;
 use crate::meaning::Meaning;
 use crate::state::Reader;
 use ranked_terms::{Seq, Shape};
+use spec_text::{LimitName, MAX_EQUATIONS, MAX_NESTING, MAX_RULES, MAX_VARIABLES, SpecKind};
 use std::alloc::AllocError;
-use timbuk_grammar::{Place, Terminal};
-
-/// The largest number of rules.
-const MAX_RULES: usize = 4096;
-
-/// The largest number of equations.
-const MAX_EQUATIONS: usize = 1024;
-
-/// How deep symbols with arguments may be nested.
-const MAX_NESTING: u32 = 100;
-
-/// The largest number of variables of a rule, of an equation or of an entry.
-pub(crate) const MAX_BOUND: usize = 16;
+use timbuk_grammar::{Role, Terminal};
 
 impl<'s, 'a> Reader<'s, 'a> {
     /// A pattern below so many open applications. A name is refused that stands for nothing in the place or passes a limit,
     /// and a variable that may not stand there; behind each name a wrong number of arguments is.
     #[cycle(pattern)]
-    pub(crate) fn pattern(&mut self, place: Place, depth: u32) -> Result<Shape, SpecError>
-        requires place { IsPatternPlace place }
-        requires depth { depth ≤ 100 }
+    pub(crate) fn pattern(&mut self, role: Role, depth: u32) -> Result<Shape, SpecError>
+        requires role { IsPatternRole role }
+        requires depth { depth ≤ MAX_NESTING }
         ensures shorter { OnOk result (Shorter self.old self.new) }
-        ensures reads { BuildsAt place depth self.old result self.new }
-        ensures fits { IfOk result (λ shape. Fits place self.old shape self.new) }
-        ensures left { IfOk result (IsNoVariable place depth) }
+        ensures reads { BuildsAt role depth self.old result self.new }
+        ensures fits { IfOk result (λ shape. Fits role self.old shape self.new) }
+        ensures left { IfOk result (IsNoVariable role depth) }
     {
-        match self.pattern_head(place, depth)? {
+        match self.pattern_head(role, depth)? {
             Meaning::Unknown => unreachable!(),
-            Meaning::Variable(variable) => self.pattern_variable(place, depth, variable),
-            Meaning::State(state) => self.pattern_state(place, depth, state),
-            Meaning::Symbol(sym, 0) => self.pattern_constant(place, depth, sym),
+            Meaning::Variable(variable) => self.pattern_variable(role, depth, variable),
+            Meaning::State(state) => self.pattern_state(role, depth, state),
+            Meaning::Symbol(sym, 0) => self.pattern_constant(role, depth, sym),
             Meaning::Symbol(sym, arity) => {
                 self.advance();
-                let args = self.arguments(place, sym, arity, depth)?;
+                let args = self.arguments(role, sym, arity, depth)?;
                 Ok(Shape::App(sym, args))
             }
         }
@@ -58,25 +49,25 @@ impl<'s, 'a> Reader<'s, 'a> {
     #[cycle(pattern)]
     fn arguments(
         &mut self,
-        place: Place,
+        role: Role,
         sym: u32,
         arity: u32,
         depth: u32,
     ) -> Result<Seq<Shape>, SpecError>
-        requires place { IsPatternPlace place }
-        requires depth { depth < 100 }
+        requires role { IsPatternRole role }
+        requires depth { depth < MAX_NESTING }
         requires some { 0 < arity }
         ensures shorter { OnOk result (Shorter self.old self.new) }
-        ensures reads { AppliesAll place sym arity depth self.old result self.new }
+        ensures reads { AppliesAll role sym arity depth self.old result self.new }
         ensures count { IfOk result (λ args. length args ≡ arity) }
-        ensures fits { IfOk result (λ args. AllFit place self.old args self.new) }
+        ensures fits { IfOk result (λ args. AllFit role self.old args self.new) }
     {
         self.first_argument()?;
         let mut args = Seq::new(self.alloc);
-        args.push(self.pattern(place, depth + 1)?)?;
+        args.push(self.pattern(role, depth + 1)?)?;
         while args.len() < arity as usize {
             self.next_argument()?;
-            args.push(self.pattern(place, depth + 1)?)?;
+            args.push(self.pattern(role, depth + 1)?)?;
         }
         self.last_argument()?;
         Ok(args)
@@ -84,17 +75,17 @@ impl<'s, 'a> Reader<'s, 'a> {
 
     /// What the name stands for that comes next in a pattern. It is refused where it may not stand there, and so is
     /// anything that is no name; in place of a further argument the end of the arguments is a wrong number.
-    fn pattern_head(&self, place: Place, depth: u32) -> Result<Meaning, SpecError>
-        requires place { IsPatternPlace place }
-        ensures ok { IfOk result (λ meaning. HasHead place depth self.now (meant_by meaning)) }
-        ensures err { IfErr result (Breaks place depth self.now) }
+    fn pattern_head(&self, role: Role, depth: u32) -> Result<Meaning, SpecError>
+        requires role { IsPatternRole role }
+        ensures ok { IfOk result (λ meaning. HasHead role depth self.now (meant_by meaning)) }
+        ensures err { IfErr result (Breaks role depth self.now) }
     {
         if depth > 0 && self.sees(Terminal::CloseParen) {
             return Err(self.refusal(SpecKind::WrongArity));
         }
-        let name = self.word(Terminal::Named(place))?;
-        let meaning = self.meaning(place, name);
-        match self.pattern_fault(place, depth, meaning) {
+        let name = self.word(Terminal::Named(role))?;
+        let meaning = self.meaning(role, name);
+        match self.pattern_fault(role, depth, meaning) {
             Some(kind) => Err(self.refusal(kind)),
             None => Ok(meaning),
         }
@@ -103,16 +94,16 @@ impl<'s, 'a> Reader<'s, 'a> {
     /// A variable, whose name comes next. A `(` behind it is refused.
     fn pattern_variable(
         &mut self,
-        place: Place,
+        role: Role,
         depth: u32,
         variable: u32,
     ) -> Result<Shape, SpecError>
-        requires place { IsPatternPlace place }
-        requires head { HasHead place depth self.old (a_variable variable) }
+        requires role { IsPatternRole role }
+        requires head { HasHead role depth self.old (a_variable variable) }
         ensures shorter { OnOk result (Shorter self.old self.new) }
-        ensures reads { BuildsAt place depth self.old result self.new }
-        ensures fits { IfOk result (λ shape. Fits place self.old shape self.new) }
-        ensures left { IfOk result (IsNoVariable place depth) }
+        ensures reads { BuildsAt role depth self.old result self.new }
+        ensures fits { IfOk result (λ shape. Fits role self.old shape self.new) }
+        ensures left { IfOk result (IsNoVariable role depth) }
     {
         self.bind(variable)?;
         self.leaf(SpecKind::Expected)?;
@@ -120,26 +111,26 @@ impl<'s, 'a> Reader<'s, 'a> {
     }
 
     /// A state, whose name comes next. A `(` behind it is refused.
-    fn pattern_state(&mut self, place: Place, depth: u32, state: u32) -> Result<Shape, SpecError>
-        requires place { IsPatternPlace place }
-        requires head { HasHead place depth self.old (a_state state) }
+    fn pattern_state(&mut self, role: Role, depth: u32, state: u32) -> Result<Shape, SpecError>
+        requires role { IsPatternRole role }
+        requires head { HasHead role depth self.old (a_state state) }
         ensures shorter { OnOk result (Shorter self.old self.new) }
-        ensures reads { BuildsAt place depth self.old result self.new }
-        ensures fits { IfOk result (λ shape. Fits place self.old shape self.new) }
-        ensures left { IfOk result (IsNoVariable place depth) }
+        ensures reads { BuildsAt role depth self.old result self.new }
+        ensures fits { IfOk result (λ shape. Fits role self.old shape self.new) }
+        ensures left { IfOk result (IsNoVariable role depth) }
     {
         self.leaf(SpecKind::Expected)?;
         Ok(Shape::State(state))
     }
 
     /// A symbol of arity 0, whose name comes next. Arguments behind it are refused.
-    fn pattern_constant(&mut self, place: Place, depth: u32, sym: u32) -> Result<Shape, SpecError>
-        requires place { IsPatternPlace place }
-        requires head { HasHead place depth self.old (a_symbol sym 0) }
+    fn pattern_constant(&mut self, role: Role, depth: u32, sym: u32) -> Result<Shape, SpecError>
+        requires role { IsPatternRole role }
+        requires head { HasHead role depth self.old (a_symbol sym 0) }
         ensures shorter { OnOk result (Shorter self.old self.new) }
-        ensures reads { BuildsAt place depth self.old result self.new }
-        ensures fits { IfOk result (λ shape. Fits place self.old shape self.new) }
-        ensures left { IfOk result (IsNoVariable place depth) }
+        ensures reads { BuildsAt role depth self.old result self.new }
+        ensures fits { IfOk result (λ shape. Fits role self.old shape self.new) }
+        ensures left { IfOk result (IsNoVariable role depth) }
     {
         self.leaf(SpecKind::WrongArity)?;
         Ok(Shape::App(sym, Seq::new(self.alloc)))
@@ -203,9 +194,9 @@ impl<'s, 'a> Reader<'s, 'a> {
         self.bound = Seq::new(self.alloc);
     }
 
-    /// Notes that the variable stands in the declaration that is being read. The only error is want of memory.
+    /// Notes that the variable stands in the declaration that is being read. The only error is running out of memory.
     pub(crate) fn bind(&mut self, variable: u32) -> Result<(), AllocError>
-        requires { has self.old.bound variable ≡ false → length self.old.bound < 16 }
+        requires { has self.old.bound variable ≡ false → length self.old.bound < MAX_VARIABLES }
         ensures bound { OnOk result (self.new.bound ≡ with_variable self.old.bound variable) }
         ensures same { OnOk result (SameBut self.old self.new) }
         ensures tokens { self.new.tokens.now ≡ self.old.tokens.now }
@@ -218,19 +209,19 @@ impl<'s, 'a> Reader<'s, 'a> {
 
     /// The first fault of a name in a pattern, by what it stands for: a limit that it passes, no meaning, a left side that is a
     /// variable, a variable that stands a second time in a left side, or one that stands in a right side alone.
-    fn pattern_fault(&self, place: Place, depth: u32, meaning: Meaning) -> Option<SpecKind>
-        ensures { result ≡ rows.pattern_fault place (meant_by meaning) depth self.now }
+    fn pattern_fault(&self, role: Role, depth: u32, meaning: Meaning) -> Option<SpecKind>
+        ensures { result ≡ rows.pattern_fault role (meant_by meaning) depth self.now }
     {
-        if let Some(limit) = self.pattern_limit(place, depth, meaning) {
+        if let Some(limit) = self.pattern_limit(role, depth, meaning) {
             return Some(SpecKind::Limit(limit));
         }
-        match (place, meaning) {
+        match (role, meaning) {
             (_, Meaning::Unknown) => Some(SpecKind::UnknownName),
-            (Place::LeftSide, Meaning::Variable(_)) if depth == 0 => Some(SpecKind::VariableLeft),
-            (Place::LeftSide, Meaning::Variable(variable)) if self.is_bound(variable) => {
+            (Role::LeftSide, Meaning::Variable(_)) if depth == 0 => Some(SpecKind::VariableLeft),
+            (Role::LeftSide, Meaning::Variable(variable)) if self.is_bound(variable) => {
                 Some(SpecKind::NotLeftLinear)
             }
-            (Place::RightSide, Meaning::Variable(variable)) if !self.is_bound(variable) => {
+            (Role::RightSide, Meaning::Variable(variable)) if !self.is_bound(variable) => {
                 Some(SpecKind::FreeVariable)
             }
             _ => None,
@@ -238,30 +229,31 @@ impl<'s, 'a> Reader<'s, 'a> {
     }
 
     /// The first limit that a name in a pattern passes: the nesting, the variables, the rules or the equations.
-    fn pattern_limit(&self, place: Place, depth: u32, meaning: Meaning) -> Option<LimitName>
-        ensures { result ≡ rows.pattern_limit (meant_by meaning) depth self.now.bound (rows.side_limit place depth (length self.now.rules) (length self.now.equations)) }
+    fn pattern_limit(&self, role: Role, depth: u32, meaning: Meaning) -> Option<LimitName>
+        ensures { result ≡ rows.pattern_limit (meant_by meaning) depth self.now.bound
+            (rows.side_limit role depth (length self.now.rules) (length self.now.equations)) }
     {
         match meaning {
             Meaning::Symbol(_, arity) if arity > 0 && depth >= MAX_NESTING => {
                 Some(LimitName::Nesting)
             }
             Meaning::Variable(variable)
-                if !self.is_bound(variable) && self.bound.len() >= MAX_BOUND => {
+                if !self.is_bound(variable) && self.bound.len() >= MAX_VARIABLES => {
                 Some(LimitName::Variables)
             }
-            _ => self.side_limit(place, depth),
+            _ => self.side_limit(role, depth),
         }
     }
 
     /// The limit that the first name of a further rule or equation passes.
-    fn side_limit(&self, place: Place, depth: u32) -> Option<LimitName>
-        ensures { result ≡ rows.side_limit place depth (length self.now.rules) (length self.now.equations) }
+    fn side_limit(&self, role: Role, depth: u32) -> Option<LimitName>
+        ensures { result ≡ rows.side_limit role depth (length self.now.rules) (length self.now.equations) }
     {
-        match place {
-            Place::LeftSide if depth == 0 && self.rules.len() >= MAX_RULES => {
+        match role {
+            Role::LeftSide if depth == 0 && self.rules.len() >= MAX_RULES => {
                 Some(LimitName::Rules)
             }
-            Place::EquationLeft if depth == 0 && self.equations.len() >= MAX_EQUATIONS => {
+            Role::EquationLeft if depth == 0 && self.equations.len() >= MAX_EQUATIONS => {
                 Some(LimitName::Equations)
             }
             _ => None,

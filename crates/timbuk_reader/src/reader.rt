@@ -4,45 +4,52 @@ ghost use Rattle.std.specs.List.{range_with_len};
 ghost use Rattle.ta_core.specs.TreeAutomaton.{bare};
 ghost use Rattle.ta_core.specs.declared.spec.Spec.{Spec as Spelled};
 ghost use Rattle.timbuk_lex.specs.Laws.{HasWord};
-ghost use Rattle.timbuk_reader.specs.declared.fault.SpecFault.{SpecFault as Told};
-ghost use Rattle.timbuk_reader.specs.Declarations.{nothing};
-ghost use Rattle.timbuk_reader.specs.Reading.{read};
+ghost use Rattle.spec_text.specs.declared.fault.SpecFault.{SpecFault as Reported};
+ghost use Rattle.spec_text.specs.Declarations.{nothing};
+ghost use Rattle.spec_text.specs.Reading.{read};
 ghost use Rattle.timbuk_reader.specs.Kept.{states_are_below, trans_are_below, eps_are_below};
-ghost use Rattle.timbuk_reader.specs.Spelled.{IsAutomatonOf, IsSpecOf};
-ghost use Rattle.timbuk_reader.specs.SpecText.{SpecText};
-ghost use Rattle.timbuk_reader.specs.Faults.{SpecFaultAt};
-ghost use Rattle.timbuk_reader.specs.Laws.{IsRead};
+ghost use Rattle.spec_text.specs.Spelled.{IsAutomatonOf, IsSpecOf};
+ghost use Rattle.spec_text.specs.SpecText.{SpecText};
+ghost use Rattle.spec_text.specs.Faults.{SpecFaultAt};
+ghost use Rattle.spec_text.specs.Laws.{IsRead};
 ghost use Rattle.timbuk_reader.specs.View.{started, state_of, end_line, end_column, end_of};
 
 use crate::fault::SpecError;
 use crate::names::NameTable;
 use crate::state::{Reader, StartedAutomaton};
 use ranked_terms::{Seq, Signature};
+use spec_text::{faults_are_first, no_text_has_two_specs, texts_are_read};
 use std::alloc::{AllocError, Global};
-use ta_core::{Automaton, Spec};
+use ta_core::{Automaton, MAX_STATES, Spec};
 use timbuk_lex::{Lexed, lex_of};
 
 /// Reads a text of fewer than 4,294,967,295 bytes: the specification that it spells, where it spells one. Else `Fault` has
-/// the first place at which the text is wrong, and what is wrong there. `Memory` comes at want of memory.
+/// the first place at which the text is wrong, and what is wrong there. `Memory` comes when the memory runs out.
 pub fn read_spec(alloc: Global, bytes: &[u8]) -> Result<Spec, SpecError>
     requires { length bytes.now < 2 ^ 32 - 1 }
     ensures found { IfOk result (SpecText bytes.now) }
-    ensures fault { (told : Told) → result ≡ Err (SpecError.Fault told) → SpecFaultAt bytes.now told }
-    ensures none { (told : Told) (spec : Spelled) → result ≡ Err (SpecError.Fault told) → SpecText bytes.now spec → ⊥ }
+    ensures fault { (reported : Reported) → result ≡ Err (SpecError.Fault reported) → SpecFaultAt bytes.now reported }
+    ensures none { (reported : Reported) (spec : Spelled) → result ≡ Err (SpecError.Fault reported)
+        → SpecText bytes.now spec → ⊥ }
 
     // What the text spells, and its first fault, name the answer.
     ensures that_one { (spec : Spelled) → SpecText bytes.now spec → (result ≡ Ok spec) ⊎ (result ≡ Err SpecError.Memory) }
-    ensures first { (told : Told) → SpecFaultAt bytes.now told → (result ≡ Err (SpecError.Fault told)) ⊎ (result ≡ Err SpecError.Memory) }
+    ensures first { (reported : Reported) → SpecFaultAt bytes.now reported
+        → (result ≡ Err (SpecError.Fault reported)) ⊎ (result ≡ Err SpecError.Memory) }
 {
+    // For the proof: what is read is what the text spells, and its first fault.
+    texts_are_read();
+    faults_are_first();
+    no_text_has_two_specs();
     read_text(alloc, bytes)
 }
 
 /// Reads a text token by token, up to its end or to the first token at which a row of the table of faults fits. The other error
-/// is want of memory.
+/// is running out of memory.
 fn read_text(alloc: Global, bytes: &[u8]) -> Result<Spec, SpecError>
     requires { length bytes.now < 2 ^ 32 - 1 }
     ensures read { IfOk result (IsRead bytes.now) }
-    ensures stops { (told : Told) → result ≡ Err (SpecError.Fault told) → read bytes.now ≡ Err told }
+    ensures stops { (reported : Reported) → result ≡ Err (SpecError.Fault reported) → read bytes.now ≡ Err reported }
 {
     let lexed = lex_of(alloc, bytes)?;
     let mut reader = Reader::new(alloc, &lexed, bytes);
@@ -57,7 +64,8 @@ impl<'s, 'a> Reader<'s, 'a> {
         requires few { length bytes.now < 2 ^ 32 - 1 }
         ensures tokens { result.tokens.now ≡ lexed.now.tokens }
         ensures state { state_of result ≡ nothing }
-        ensures end { end_of result ≡ record { ending = lexed.now.ending; line = end_line bytes.now; column = end_column bytes.now } }
+        ensures end { end_of result
+            ≡ record { ending = lexed.now.ending; line = end_line bytes.now; column = end_column bytes.now } }
     {
         Reader {
             alloc,
@@ -80,7 +88,7 @@ impl<'s, 'a> Reader<'s, 'a> {
         }
     }
 
-    /// The specification of all that was read. The only error is want of memory.
+    /// The specification of all that was read. The only error is running out of memory.
     fn into_spec(self) -> Result<Spec, AllocError>
         ensures { IfOk result (IsSpecOf (state_of self.entry)) }
     {
@@ -103,9 +111,10 @@ impl<'s, 'a> Reader<'s, 'a> {
 
 impl StartedAutomaton {
     /// The automaton of the first states, of this number, with the final states and the transitions that are declared. What
-    /// stands twice counts once, and an epsilon transition from a state to itself does not. The only error is want of memory.
+    /// stands twice counts once, and an epsilon transition from a state to itself does not. The only error is running out
+    /// of memory.
     fn into_automaton(self, alloc: Global, count: u32) -> Result<Automaton, AllocError>
-        requires few { count ≤ 16384 }
+        requires few { count ≤ MAX_STATES }
         requires finals { IsTrue (states_are_below count self.finals) }
         requires trans { IsTrue (trans_are_below count self.trans) }
         requires eps { IsTrue (eps_are_below count self.eps) }
@@ -120,9 +129,9 @@ impl StartedAutomaton {
     }
 }
 
-/// The automaton of so many states alone, numbered from 0. The only error is want of memory.
+/// The automaton of so many states alone, numbered from 0. The only error is running out of memory.
 fn automaton_of_states(alloc: Global, count: u32) -> Result<Automaton, AllocError>
-    requires { count ≤ 16384 }
+    requires { count ≤ MAX_STATES }
     ensures { IfOk result (λ automaton. automaton ≡ bare count (range_with_len 0 count)) }
 {
     let mut states = Vec::new(alloc);
@@ -132,7 +141,7 @@ fn automaton_of_states(alloc: Global, count: u32) -> Result<Automaton, AllocErro
     Automaton::with_states(alloc, count, &states)
 }
 
-/// The epsilon transitions that lead to another state. The only error is want of memory.
+/// The epsilon transitions that lead to another state. The only error is running out of memory.
 fn moves_of(alloc: Global, eps: &[(u32, u32)]) -> Result<Seq<(u32, u32)>, AllocError>
     ensures { IfOk result (λ moves. moves ≡ filter (λ e. not (e.0 == e.1)) eps.now) }
 {

@@ -3,23 +3,24 @@ ghost use Rattle.std.specs.Prelude.{◌≡◌, ◌≤◌, false, IfOk, OnOk, Mat
 ghost use Rattle.ta_core.specs.SpecRules.{shape_is_below};
 ghost use Rattle.timbuk_grammar.specs.Grammar as grammar;
 ghost use Rattle.timbuk_grammar.specs.declared.terminal.Terminal.TheVariants as terminal;
-ghost use Rattle.timbuk_reader.specs.Naming.{shape_of};
-ghost use Rattle.timbuk_reader.specs.Sides.{IsSidePlace, ReadsSide};
+ghost use Rattle.spec_text.specs.Naming.{shape_of};
+ghost use Rattle.timbuk_reader.specs.Sides.{IsSideRole, ReadsSide};
 ghost use Rattle.timbuk_reader.specs.View.{Shorter, closed};
 ghost use Rattle.timbuk_reader.specs.Reads.{Reads};
 
-use crate::fault::{LimitName, SpecError, SpecKind};
+use crate::fault::SpecError;
 use crate::state::Reader;
 use ranked_terms::{Pattern, Seq, Shape};
+use spec_text::{LimitName, MAX_EQUATION_SECTIONS, MAX_SYSTEMS, SpecKind};
 use std::alloc::{AllocError, Global};
-use timbuk_grammar::{Place, Terminal};
+use timbuk_grammar::{Role, Terminal};
 use trs_rules::{Equation, Rule};
 
 // ---- sections
 
 impl<'s, 'a> Reader<'s, 'a> {
     /// The rules, from the word `TRS` on. They are refused where there are some.
-    #[tactic(auto, using(crate::proofs::Steps::then_stops, crate::proofs::Steps::later_stops))]
+    #[tactic(auto, using(crate::proofs::parsing::Parts::then_stops, crate::proofs::parsing::Parts::later_stops))]
     pub(crate) fn system(&mut self) -> Result<(), SpecError>
         ensures shorter { OnOk result (Shorter self.old self.new) }
         ensures reads { Reads grammar.system closed self.old result closed self.new }
@@ -37,7 +38,7 @@ impl<'s, 'a> Reader<'s, 'a> {
         if !self.sees(Terminal::Trs) {
             return Err(self.refusal(SpecKind::Expected));
         }
-        if self.systems > 0 {
+        if self.systems >= MAX_SYSTEMS {
             return Err(self.refusal(SpecKind::Limit(LimitName::Systems)));
         }
         self.advance();
@@ -46,7 +47,7 @@ impl<'s, 'a> Reader<'s, 'a> {
     }
 
     /// The equations, from the word `Equations` on. They are refused where there are some.
-    #[tactic(auto, using(crate::proofs::Steps::then_stops, crate::proofs::Steps::later_stops))]
+    #[tactic(auto, using(crate::proofs::parsing::Parts::then_stops, crate::proofs::parsing::Parts::later_stops))]
     pub(crate) fn equations(&mut self) -> Result<(), SpecError>
         ensures shorter { OnOk result (Shorter self.old self.new) }
         ensures reads { Reads grammar.equations closed self.old result closed self.new }
@@ -65,7 +66,7 @@ impl<'s, 'a> Reader<'s, 'a> {
         if !self.sees(Terminal::Equations) {
             return Err(self.refusal(SpecKind::Expected));
         }
-        if self.equation_sections > 0 {
+        if self.equation_sections >= MAX_EQUATION_SECTIONS {
             return Err(self.refusal(SpecKind::Limit(LimitName::EquationSections)));
         }
         self.advance();
@@ -82,7 +83,7 @@ impl<'s, 'a> Reader<'s, 'a> {
         ensures no_longer { OnOk result (length self.new.tokens.now ≤ length self.old.tokens.now) }
         ensures reads { Reads (grammar.many grammar.rule) closed self.old result closed self.new }
     {
-        while self.sees(Terminal::Named(Place::LeftSide)) {
+        while self.sees(Terminal::Named(Role::LeftSide)) {
             self.rule()?;
         }
         Ok(())
@@ -94,9 +95,9 @@ impl<'s, 'a> Reader<'s, 'a> {
         ensures reads { Reads grammar.rule closed self.old result closed self.new }
     {
         self.unbind();
-        let left = self.side(Place::LeftSide)?;
+        let left = self.side(Role::LeftSide)?;
         self.take(Terminal::Arrow)?;
-        let right = self.side(Place::RightSide)?;
+        let right = self.side(Role::RightSide)?;
         match Rule::new(left, right) {
             Ok(rule) => Ok(self.rules.push(rule)?),
             Err(_) => unreachable!(),
@@ -108,7 +109,7 @@ impl<'s, 'a> Reader<'s, 'a> {
         ensures no_longer { OnOk result (length self.new.tokens.now ≤ length self.old.tokens.now) }
         ensures reads { Reads (grammar.many grammar.equation) closed self.old result closed self.new }
     {
-        while self.sees(Terminal::Named(Place::EquationLeft)) {
+        while self.sees(Terminal::Named(Role::EquationLeft)) {
             self.equation()?;
         }
         Ok(())
@@ -120,9 +121,9 @@ impl<'s, 'a> Reader<'s, 'a> {
         ensures reads { Reads grammar.equation closed self.old result closed self.new }
     {
         self.unbind();
-        let left = self.side(Place::EquationLeft)?;
+        let left = self.side(Role::EquationLeft)?;
         self.take(Terminal::Equals)?;
-        let right = self.side(Place::EquationRight)?;
+        let right = self.side(Role::EquationRight)?;
         match Equation::new(left, right) {
             Ok(equation) => Ok(self.equations.push(equation)?),
             Err(_) => unreachable!(),
@@ -130,12 +131,12 @@ impl<'s, 'a> Reader<'s, 'a> {
     }
 
     /// A side of a rule or of an equation.
-    fn side(&mut self, place: Place) -> Result<Pattern, SpecError>
-        requires { IsSidePlace place }
+    fn side(&mut self, role: Role) -> Result<Pattern, SpecError>
+        requires { IsSideRole role }
         ensures shorter { OnOk result (Shorter self.old self.new) }
-        ensures reads { ReadsSide place self.old result self.new }
+        ensures reads { ReadsSide role self.old result self.new }
     {
-        let shape = self.pattern(place, 0)?;
+        let shape = self.pattern(role, 0)?;
         match pattern_of(self.alloc, &shape)? {
             Some(side) => Ok(side),
             None => unreachable!(),
@@ -143,9 +144,10 @@ impl<'s, 'a> Reader<'s, 'a> {
     }
 }
 
-/// The shape as a pattern. `None` exactly where a state stands in it. The only error is want of memory.
+/// The shape as a pattern. `None` exactly where a state stands in it. The only error is running out of memory.
 fn pattern_of(alloc: Global, shape: &Shape) -> Result<Option<Pattern>, AllocError>
-    ensures { IfOk result (λ found. MatchOption found (shape_is_below 0 shape.now ≡ false) (λ pattern. shape_of pattern ≡ shape.now)) }
+    ensures { IfOk result (λ found. MatchOption found (shape_is_below 0 shape.now ≡ false)
+        (λ pattern. shape_of pattern ≡ shape.now)) }
 {
     match shape {
         Shape::Var(variable) => Ok(Some(Pattern::Var(*variable))),

@@ -2,11 +2,13 @@
 ghost use Rattle.std.specs.Prelude.{◌≡◌, ◌≢◌, true, Ok, Err, OnOk, IfErr, MatchOption};
 ghost use Rattle.timbuk_grammar.specs.Grammar as grammar;
 ghost use Rattle.timbuk_reader.specs.SectionReads.{word_of, part_of, BeginsNone, from_start, at_end};
-ghost use Rattle.timbuk_reader.specs.View.{Shorter, closed, as_error, state_of, sees};
+ghost use Rattle.timbuk_reader.specs.View.{Shorter, closed, as_error, state_of};
+ghost use Rattle.spec_text.specs.Reading.{sees};
 ghost use Rattle.timbuk_reader.specs.Reads.{Reads, IsFresh};
 
-use crate::fault::{SpecError, SpecKind};
+use crate::fault::SpecError;
 use crate::state::Reader;
+use spec_text::SpecKind;
 use timbuk_grammar::Terminal;
 use timbuk_lex::Ending;
 
@@ -24,7 +26,7 @@ enum Section {
 }
 
 impl<'s, 'a> Reader<'s, 'a> {
-    /// A whole text. The error is its first fault, or want of memory.
+    /// A whole text. The error is its first fault, or running out of memory.
     pub(crate) fn text(&mut self) -> Result<(), SpecError>
         requires { IsFresh self.old }
         ensures ok { OnOk result (from_start self.old ≡ Ok (state_of self.new)) }
@@ -34,8 +36,14 @@ impl<'s, 'a> Reader<'s, 'a> {
         self.end()
     }
 
-    /// All that a text declares: symbols, variables and sections. The error is the first fault in them, or want of memory.
-    #[tactic(auto, using(crate::proofs::Steps::then_leads, crate::proofs::Steps::then_stops, crate::proofs::Steps::later_stops, crate::proofs::Steps::then_reads))]
+    /// All that a text declares: symbols, variables and sections. The error is the first fault in them, or running out of memory.
+    #[rattlefmt::skip]
+    #[tactic(auto, using(
+        crate::proofs::parsing::Parts::then_advances,
+        crate::proofs::parsing::Parts::then_stops,
+        crate::proofs::parsing::Parts::later_stops,
+        crate::proofs::parsing::Parts::then_reads
+    ))]
     fn declarations(&mut self) -> Result<(), SpecError>
         requires { IsFresh self.old }
         ensures { Reads grammar.file closed self.old result closed self.new }
@@ -45,9 +53,15 @@ impl<'s, 'a> Reader<'s, 'a> {
         self.sections()
     }
 
-    /// The sections after the variables, as many as there are. The error is the first fault in one of them, or want of
+    /// The sections after the variables, as many as there are. The error is the first fault in one of them, or running out of
     /// memory.
-    #[tactic(auto, using(crate::proofs::Steps::turns_start, crate::proofs::StepsSections::sections_again, crate::proofs::StepsSections::sections_stop, crate::proofs::StepsSections::sections_err))]
+    #[rattlefmt::skip]
+    #[tactic(auto, using(
+        crate::proofs::parsing::Parts::turns_start,
+        crate::proofs::parsing::Sections::sections_again,
+        crate::proofs::parsing::Sections::sections_stop,
+        crate::proofs::parsing::Sections::sections_err
+    ))]
     fn sections(&mut self) -> Result<(), SpecError>
         ensures { Reads (grammar.many grammar.section) closed self.old result closed self.new }
     {
@@ -59,7 +73,8 @@ impl<'s, 'a> Reader<'s, 'a> {
 
     /// The section whose word stands next, if one does.
     fn next_section(&self) -> Option<Section>
-        ensures { MatchOption result (BeginsNone self.now.tokens.now) (λ section. sees (word_of section) self.now.tokens.now ≡ true) }
+        ensures { MatchOption result (BeginsNone self.now.tokens.now)
+            (λ section. sees (word_of section) self.now.tokens.now ≡ true) }
     {
         if self.sees(Terminal::Trs) {
             Some(Section::System)
@@ -74,7 +89,7 @@ impl<'s, 'a> Reader<'s, 'a> {
         }
     }
 
-    /// A section, from its word on. The error is the first fault in it, or want of memory.
+    /// A section, from its word on. The error is the first fault in it, or running out of memory.
     fn section(&mut self, section: Section) -> Result<(), SpecError>
         ensures shorter { OnOk result (Shorter self.old self.new) }
         ensures reads { Reads (part_of section) closed self.old result closed self.new }
@@ -89,7 +104,13 @@ impl<'s, 'a> Reader<'s, 'a> {
 
     /// The end of a text. A token is refused, as a closed word or as not expected; where no token is left, the error is the
     /// byte that begins none, or that the text has no automaton.
-    #[tactic(auto, using(crate::proofs::StepsSections::end_at_token, crate::proofs::StepsSections::end_at_byte, crate::proofs::StepsSections::end_without_automaton, crate::proofs::StepsSections::end_is_whole))]
+    #[rattlefmt::skip]
+    #[tactic(auto, using(
+        crate::proofs::parsing::Sections::end_at_token,
+        crate::proofs::parsing::Sections::end_at_byte,
+        crate::proofs::parsing::Sections::end_without_automaton,
+        crate::proofs::parsing::Sections::end_is_whole
+    ))]
     fn end(&self) -> Result<(), SpecError>
         ensures ok { OnOk result (at_end self.now ≡ Ok (state_of self.now)) }
         ensures err { IfErr result (λ e. as_error (at_end self.now) ≡ Err e) }

@@ -2,7 +2,8 @@
 ghost use Rattle.std.specs.Prelude.{◌≡◌, ◌<◌, ◌≤◌, ◌-◌, ◌^◌, [], All, IsTrue, length};
 ghost use Rattle.timbuk_lex.specs.Laws.{HasWord};
 ghost use Rattle.trs_rules.specs.Rules.{IsEquation};
-ghost use Rattle.ta_core.specs.SpecRules.{rules_are_over, equations_are_over, entries_are_over, entries_are_below, entries_are_small};
+ghost use Rattle.ta_core.specs.SpecRules.{rules_are_over, equations_are_over, entries_are_over, entries_are_below};
+ghost use Rattle.ta_core.specs.SpecRules.{entries_are_small};
 ghost use Rattle.timbuk_reader.specs.Kept.{IsKeptRule, trans_are_over, states_are_below, trans_are_below, eps_are_below};
 
 use crate::names::NameTable;
@@ -80,13 +81,13 @@ pub(crate) struct Reader<'s, 'a> {
     ghost second_trans: { IsTrue (trans_are_below (length second.states) second.trans) },
     ghost second_eps: { IsTrue (eps_are_below (length second.states) second.eps) },
     ghost entries_below: { IsTrue (entries_are_below (length initial.states) entries) },
-    // An entry has at most 16 variables.
+    // An entry has few variables.
     ghost entries_small: { IsTrue (entries_are_small entries) },
     // Before the first automaton there is no approximation, and without an approximation nothing of one.
     ghost none_early: { automata ≡ 0 → approximations ≡ 0 },
     ghost no_extra: { approximations ≡ 0 → extra ≡ 0 },
     ghost no_entries: { approximations ≡ 0 → entries ≡ [] },
-    // A declaration has at most 16 variables.
+    // A declaration has at most `MAX_VARIABLES` variables.
     ghost few_bound: { length bound ≤ 16 },
     // The counts are within their limits.
     ghost few_automata: { automata ≤ 2 },

@@ -2,24 +2,30 @@
 ghost use Rattle.std.specs.Prelude.{◌≡◌, min, ◌++◌, IfOk, IfErr, OnOk};
 ghost use Rattle.ranked_terms.specs.Names.{names_of};
 ghost use Rattle.timbuk_grammar.specs.Grammar as grammar;
-ghost use Rattle.timbuk_grammar.specs.declared.terminal.Place.TheVariants as place;
+ghost use Rattle.timbuk_grammar.specs.declared.terminal.Role.TheVariants as role;
 ghost use Rattle.timbuk_grammar.specs.declared.terminal.Terminal.TheVariants as terminal;
-ghost use Rattle.timbuk_reader.specs.Declarations.{value_of};
-ghost use Rattle.timbuk_reader.specs.Rows.{is_in};
+ghost use Rattle.spec_text.specs.Declarations.{value_of};
+ghost use Rattle.spec_text.specs.Rows.{is_in};
 ghost use Rattle.timbuk_reader.specs.View.{Shorter, closed, naming};
-ghost use Rattle.timbuk_reader.specs.Reads.{Leads, Stops, Reads, IsFresh, IsNewSymbol};
+ghost use Rattle.timbuk_reader.specs.Reads.{Advances, Stops, Reads, IsFresh, IsNewSymbol};
 
-use crate::fault::{LimitName, SpecError, SpecKind};
+use crate::fault::SpecError;
 use crate::state::Reader;
 use ranked_terms::{MAX_ARITY, MAX_SYMBOLS, SigError};
-use timbuk_grammar::{Place, Terminal};
-
-/// The largest number of variables that a text declares.
-const MAX_VARIABLES: u32 = 1024;
+use spec_text::{LimitName, MAX_DECLARED, SpecKind};
+use timbuk_grammar::{Role, Terminal};
 
 impl<'s, 'a> Reader<'s, 'a> {
     /// The symbols, if the text declares any: `Ops`, and names with their arities.
-    #[tactic(auto, using(crate::proofs::Steps::then_reads, crate::proofs::Steps::then_stops, crate::proofs::Steps::then_head, crate::proofs::Steps::maybe_reads, crate::proofs::Steps::maybe_stops, crate::proofs::Steps::maybe_none))]
+    #[rattlefmt::skip]
+    #[tactic(auto, using(
+        crate::proofs::parsing::Parts::then_reads,
+        crate::proofs::parsing::Parts::then_stops,
+        crate::proofs::parsing::Parts::then_head,
+        crate::proofs::parsing::Parts::maybe_reads,
+        crate::proofs::parsing::Parts::maybe_stops,
+        crate::proofs::parsing::Parts::maybe_none
+    ))]
     pub(crate) fn ops(&mut self) -> Result<(), SpecError>
         requires { IsFresh self.old }
         ensures reads { Reads (grammar.maybe grammar.ops) closed self.old result closed self.new }
@@ -33,20 +39,36 @@ impl<'s, 'a> Reader<'s, 'a> {
     }
 
     /// Names with their arities, as many as there are.
-    #[tactic(auto, using(crate::proofs::Steps::turns_start, crate::proofs::Steps::turns_again, crate::proofs::Steps::turns_stop, crate::proofs::Steps::turns_err, crate::proofs::Steps::then_head))]
+    #[rattlefmt::skip]
+    #[tactic(auto, using(
+        crate::proofs::parsing::Parts::turns_start,
+        crate::proofs::parsing::Parts::turns_again,
+        crate::proofs::parsing::Parts::turns_stop,
+        crate::proofs::parsing::Parts::turns_err,
+        crate::proofs::parsing::Parts::then_head
+    ))]
     fn all_ops(&mut self) -> Result<(), SpecError>
         requires { IsFresh self.old }
         ensures reads { Reads (grammar.many grammar.op) closed self.old result closed self.new }
         ensures fresh { OnOk result (IsFresh self.new) }
     {
-        while self.sees(Terminal::Named(Place::Symbol)) {
+        while self.sees(Terminal::Named(Role::Symbol)) {
             self.op()?;
         }
         Ok(())
     }
 
     /// A name with its arity.
-    #[tactic(auto, using(crate::proofs::Steps::then_leads, crate::proofs::Steps::then_stops, crate::proofs::Steps::later_stops, crate::proofs::Steps::then_reads, crate::proofs::StepsTokens::mark_leads, crate::proofs::StepsTokens::mark_stops, crate::proofs::StepsTokens::naming_calm))]
+    #[rattlefmt::skip]
+    #[tactic(auto, using(
+        crate::proofs::parsing::Parts::then_advances,
+        crate::proofs::parsing::Parts::then_stops,
+        crate::proofs::parsing::Parts::later_stops,
+        crate::proofs::parsing::Parts::then_reads,
+        crate::proofs::parsing::Tokens::mark_advances,
+        crate::proofs::parsing::Tokens::mark_stops,
+        crate::proofs::parsing::Tokens::naming_calm
+    ))]
     fn op(&mut self) -> Result<(), SpecError>
         requires { IsFresh self.old }
         ensures shorter { OnOk result (Shorter self.old self.new) }
@@ -58,17 +80,17 @@ impl<'s, 'a> Reader<'s, 'a> {
         self.arity(name)
     }
 
-    /// The name of a symbol. It is refused where there are 4,096 symbols, and where one of them has the name.
-    #[tactic(auto, using(crate::proofs::StepsTokens::no_word_stops, crate::proofs::StepsTokens::closed_calm))]
+    /// The name of a symbol. It is refused where there are `MAX_SYMBOLS` symbols, and where one of them has the name.
+    #[tactic(auto, using(crate::proofs::parsing::Tokens::no_word_stops, crate::proofs::parsing::Tokens::closed_calm))]
     fn symbol_name(&mut self) -> Result<&'a str, SpecError>
         requires { IsFresh self.old }
         ensures shorter { OnOk result (Shorter self.old self.new) }
-        ensures ok { IfOk result (λ name. Leads (grammar.name place.Symbol) closed self.old (naming name.now) self.new) }
-        ensures err { IfErr result (Stops (grammar.name place.Symbol) closed self.old) }
+        ensures ok { IfOk result (λ name. Advances (grammar.name role.Symbol) closed self.old (naming name.now) self.new) }
+        ensures err { IfErr result (Stops (grammar.name role.Symbol) closed self.old) }
         ensures new { IfOk result (λ name. IsNewSymbol self.new.signature name.now) }
         ensures fresh { OnOk result (IsFresh self.new) }
     {
-        let name = self.word(Terminal::Named(Place::Symbol))?;
+        let name = self.word(Terminal::Named(Role::Symbol))?;
         if self.signature.len() >= MAX_SYMBOLS {
             return Err(self.refusal(SpecKind::Limit(LimitName::Symbols)));
         }
@@ -79,8 +101,8 @@ impl<'s, 'a> Reader<'s, 'a> {
         Ok(name)
     }
 
-    /// The arity of the symbol of this name, which is added. It is refused above 16.
-    #[tactic(auto, using(crate::proofs::StepsTokens::no_word_stops, crate::proofs::StepsTokens::naming_calm))]
+    /// The arity of the symbol of this name, which is added. It is refused above `MAX_ARITY`.
+    #[tactic(auto, using(crate::proofs::parsing::Tokens::no_word_stops, crate::proofs::parsing::Tokens::naming_calm))]
     fn arity(&mut self, name: &str) -> Result<(), SpecError>
         requires fresh { IsFresh self.old }
         requires new { IsNewSymbol self.old.signature name.now }
@@ -110,7 +132,15 @@ impl<'s, 'a> Reader<'s, 'a> {
     }
 
     /// The variables, if the text declares any: `Vars`, and names.
-    #[tactic(auto, using(crate::proofs::Steps::then_reads, crate::proofs::Steps::then_stops, crate::proofs::Steps::then_head, crate::proofs::Steps::maybe_reads, crate::proofs::Steps::maybe_stops, crate::proofs::Steps::maybe_none))]
+    #[rattlefmt::skip]
+    #[tactic(auto, using(
+        crate::proofs::parsing::Parts::then_reads,
+        crate::proofs::parsing::Parts::then_stops,
+        crate::proofs::parsing::Parts::then_head,
+        crate::proofs::parsing::Parts::maybe_reads,
+        crate::proofs::parsing::Parts::maybe_stops,
+        crate::proofs::parsing::Parts::maybe_none
+    ))]
     pub(crate) fn vars(&mut self) -> Result<(), SpecError>
         ensures { Reads (grammar.maybe grammar.vars) closed self.old result closed self.new }
     {
@@ -122,25 +152,32 @@ impl<'s, 'a> Reader<'s, 'a> {
     }
 
     /// Names of variables, as many as there are.
-    #[tactic(auto, using(crate::proofs::Steps::turns_start, crate::proofs::Steps::turns_again, crate::proofs::Steps::turns_stop, crate::proofs::Steps::turns_err, crate::proofs::Steps::one_head))]
+    #[rattlefmt::skip]
+    #[tactic(auto, using(
+        crate::proofs::parsing::Parts::turns_start,
+        crate::proofs::parsing::Parts::turns_again,
+        crate::proofs::parsing::Parts::turns_stop,
+        crate::proofs::parsing::Parts::turns_err,
+        crate::proofs::parsing::Parts::one_head
+    ))]
     fn all_vars(&mut self) -> Result<(), SpecError>
-        ensures { Reads (grammar.many (grammar.name place.Variable)) closed self.old result closed self.new }
+        ensures { Reads (grammar.many (grammar.name role.Variable)) closed self.old result closed self.new }
     {
-        while self.sees(Terminal::Named(Place::Variable)) {
+        while self.sees(Terminal::Named(Role::Variable)) {
             self.variable_name()?;
         }
         Ok(())
     }
 
-    /// The name of a variable, which is added. It is refused where there are 1,024 variables, and where a symbol or a variable
-    /// has the name.
-    #[tactic(auto, using(crate::proofs::StepsTokens::no_word_stops, crate::proofs::StepsTokens::closed_calm))]
+    /// The name of a variable, which is added. It is refused where there are `MAX_DECLARED` variables, and where a symbol or a
+    /// variable has the name.
+    #[tactic(auto, using(crate::proofs::parsing::Tokens::no_word_stops, crate::proofs::parsing::Tokens::closed_calm))]
     fn variable_name(&mut self) -> Result<(), SpecError>
         ensures shorter { OnOk result (Shorter self.old self.new) }
-        ensures reads { Reads (grammar.name place.Variable) closed self.old result closed self.new }
+        ensures reads { Reads (grammar.name role.Variable) closed self.old result closed self.new }
     {
-        let name = self.word(Terminal::Named(Place::Variable))?;
-        if self.variables.len() >= MAX_VARIABLES {
+        let name = self.word(Terminal::Named(Role::Variable))?;
+        if self.variables.len() >= MAX_DECLARED {
             return Err(self.refusal(SpecKind::Limit(LimitName::Declared)));
         }
         if self.is_taken(name) {

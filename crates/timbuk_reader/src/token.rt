@@ -2,11 +2,12 @@
 ghost use Rattle.std.specs.Prelude.{◌≡◌, ◌-◌, ◌<◌, ◌^◌, All, None, Some, Err, find, length, map, option_map, IfOk};
 ghost use Rattle.timbuk_lex.specs.Lexing.{lexed};
 ghost use Rattle.timbuk_reader.specs.Tokens as tokens;
-ghost use Rattle.timbuk_reader.specs.declared.fault.SpecFault.{SpecFault as Told};
+ghost use Rattle.spec_text.specs.declared.fault.SpecFault.{SpecFault as Reported};
 ghost use Rattle.timbuk_reader.specs.declared.token.TokenError.TheVariants.{Memory};
 
-use crate::fault::{LimitName, SpecFault, SpecKind, lexical_kind};
+use crate::fault::lexical_kind;
 use ranked_terms::{MAX_NAME, Name, Seq};
+use spec_text::{LimitName, SpecFault, SpecKind};
 use std::alloc::{AllocError, Global};
 use timbuk_lex::{Ending, Lexeme, TokenKind, lex_of};
 
@@ -28,9 +29,9 @@ pub struct Token {
 /// Why a text has no tokens.
 #[derive(Clone, Copy, Debug, Drop, PartialEq, Eq)]
 pub enum TokenError {
-    /// A byte begins no token, a comment or a quoted text has no end, or a word has more than 255 bytes.
+    /// A byte begins no token, a comment or a quoted text has no end, or a word has more than `MAX_NAME` bytes.
     Fault(SpecFault),
-    /// There is no memory.
+    /// The memory ran out.
     Memory,
 }
 
@@ -45,7 +46,7 @@ impl From<AllocError> for TokenError {
     }
 }
 
-/// The same token with a text of its own. The only error is want of memory.
+/// The same token with a text of its own. The only error is running out of memory.
 fn token_of(alloc: Global, lexeme: &Lexeme) -> Result<Token, AllocError>
     ensures { IfOk result (λ token. token ≡ tokens.token_of lexeme.now) }
 {
@@ -101,7 +102,7 @@ fn first_fault(lexemes: &[Lexeme], ending: Ending) -> Option<SpecFault>
     }
 }
 
-/// The same tokens, each with a text of its own. The only error is want of memory.
+/// The same tokens, each with a text of its own. The only error is running out of memory.
 fn tokens_of(alloc: Global, lexemes: &[Lexeme]) -> Result<Seq<Token>, AllocError>
     ensures { IfOk result (λ all. all ≡ map tokens.token_of lexemes.now) }
 {
@@ -114,15 +115,16 @@ fn tokens_of(alloc: Global, lexemes: &[Lexeme]) -> Result<Seq<Token>, AllocError
 
 /// The tokens of a text of fewer than 4,294,967,295 bytes, in order; the text of each is the slice of the bytes that begins at
 /// its `start`. `Fault` exactly where a byte begins no token, a comment or a quoted text has no end, or a word has more than
-/// 255 bytes: the first of these, from the left.
-#[tactic(auto, using(crate::proofs::TokenSlices::in_order_of))]
+/// `MAX_NAME` bytes: the first of these, from the left.
+#[tactic(auto, using(crate::proofs::keeping::Slices::in_order_of))]
 pub fn tokens(alloc: Global, bytes: &[u8]) -> Result<Seq<Token>, TokenError>
     requires { length bytes.now < 2 ^ 32 - 1 }
     ensures tokens { IfOk result (λ all. all ≡ map tokens.token_of (lexed bytes.now).tokens) }
     ensures slices { IfOk result (All (tokens.IsSlice bytes.now)) }
     ensures in_order { IfOk result (tokens.InOrder 0) }
     ensures fine { IfOk result (λ _. tokens.token_fault bytes.now ≡ None) }
-    ensures fault { (told : Told) → result ≡ Err (TokenError.Fault told) → tokens.token_fault bytes.now ≡ Some told }
+    ensures fault { (reported : Reported) → result ≡ Err (TokenError.Fault reported)
+        → tokens.token_fault bytes.now ≡ Some reported }
 {
     let lexed = lex_of(alloc, bytes)?;
     if let Some(fault) = first_fault(lexed.tokens.as_slice(), lexed.ending) {

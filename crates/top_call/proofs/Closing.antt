@@ -1,7 +1,7 @@
 -- Closure under rules, assignment by assignment.
 use Rattle.std.proofs.Common.{◌≡◌, ◌↔◌, ◌<◌, ◌≤◌, ◌==◌, ℕ, ◌+◌, ◌-◌, Bool, true, false, not, cond, IsTrue, List, [], ◌∷◌, ◌++◌, append-nil, append_assoc, length, get_or, Option, Some, None, Result, IfOk, take, All, Contains, refl, sym, ap, subst, ◌∙◌, true≢false, length-append, arith}
 use Rattle.std.specs.Bool.{MatchBool}
-use Rattle.std.specs.List.{AllWithin, HoldsAt, position_or_len}
+use Rattle.std.specs.List.{AllWithin, HoldsAt}
 use Rattle.std.specs.Option.{unwrap_or}
 use Rattle.std.proofs.Math.Dec.{ltb}
 use Rattle.std.proofs.lemmas.Bool.{eqb-true, ltb-false}
@@ -21,16 +21,6 @@ use Rattle.ta_core.specs.ClosureLaws.{IsClosedAt, ClosedByLists}
 use Rattle.top_call.specs.Closing.{IsClosedFrom}
 
 -- ---- searches
-
-place_by : (n len : ℕ) (b : Bool) → ltb n len ≡ b → n ≤ len → unwrap_or (cond b (Some n) None) len ≡ n
-place_by n len true e h = refl
-place_by n len false e h = omega (arith, ltb-false n len e)
-
--- the place that was found, and the length where there is none
-pub place_or_length : (p : ℕ → Bool) (xs : List ℕ) (o : Option ℕ) → o ≡ cond (ltb (position_or_len p xs) (length xs)) (Some (position_or_len p xs)) None → unwrap_or o (length xs) ≡ position_or_len p xs
-place_or_length p xs o e =
-    let n = position_or_len p xs in
-    ap (λ r. unwrap_or r (length xs)) e ∙ place_by n (length xs) (ltb n (length xs)) refl (prefix_len-le-length (λ x. not (p x)) xs)
 
 all_by : (P : ℕ → Type 0) (r : Bool) (xs : List ℕ) → MatchBool r (AllWithin P xs 0 (length xs)) ((k : ℕ) × (k < length xs) × HoldsAt (λ x. ¬ P x) xs k) → IsTrue r → All P xs
 all_by P true xs cases e = All-from_all_within P xs cases

@@ -9,13 +9,13 @@ use Rattle.std.proofs.lemmas.Option.{slice_get_within, slice_get-get_or, get_or_
 use Rattle.std.proofs.lemmas.Slice.Zip.{get_or-zip, length-zip}
 use Rattle.ranked_terms.specs.Terms.{node, config_of}
 use Rattle.ranked_terms.specs.declared.term.Term.{Term}
-use Rattle.ranked_terms.proofs.TermLaws.{config_node, term_induction}
+use Rattle.ranked_terms.specs.lemmas.TermLaws.{config_node, term_induction}
 use Rattle.ta_core.specs.TreeAutomaton.{IsSound, trans_of}
 use Rattle.ta_core.specs.declared.trans.Trans.{Trans}
 use Rattle.ta_core.specs.Runs.{Runs, RunsAll, Reaches}
-use Rattle.ta_core.proofs.Members.{none, here, there}
-use Rattle.ta_core.proofs.RunsLaws.{run_ends, run_of_app, zip_from_all}
-use Rattle.top_call.specs.Meeting.{Meets, HaveNoCommonTerm}
+use Rattle.list_laws.proofs.Members.{none, here, there}
+use Rattle.ta_core.specs.lemmas.RunsLaws.{run_ends, run_of_app, zip_from_all}
+use Rattle.ta_core.specs.Meeting.{Meets, HaveNoCommonTerm}
 use Rattle.top_call.specs.Products.{TwoAutomata, same_pair, Keeps, AreMarked, StepsTo, Enters, EntersBy, EntersAt, AreNotBothFinal}
 use Rattle.top_call.specs.Uses.{IsUseOf, AreUsesOf}
 use Rattle.top_call.specs.declared.missing.uses.Use.{Use}

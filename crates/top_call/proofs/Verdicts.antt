@@ -16,12 +16,12 @@ use Rattle.ta_core.specs.Closure.{Closed}
 use Rattle.ta_core.specs.AcceptanceLaws.{ContainsItself, AcceptedTermsAreOver, AcceptedIsSafe}
 use Rattle.ta_core.specs.ClosureLaws.{ClosedAcceptsReached}
 use Rattle.ta_core.specs.declared.spec.Spec.{Spec}
-use Rattle.top_call.specs.Meeting.{HaveNoCommonTerm}
+use Rattle.ta_core.specs.Meeting.{HaveNoCommonTerm}
 use Rattle.top_call.specs.Words.{file_of}
-use Rattle.timbuk_reader.specs.Source.{RuleDeclaration}
-use Rattle.timbuk_reader.specs.Naming.{Names}
-use Rattle.timbuk_reader.specs.SpecText.{IsRuleFrom, SpecText}
-use Rattle.timbuk_reader.specs.Laws.{OneSpec}
+use Rattle.spec_text.specs.Source.{RuleDeclaration}
+use Rattle.spec_text.specs.Naming.{Names}
+use Rattle.spec_text.specs.SpecText.{IsRuleFrom, SpecText}
+use Rattle.spec_text.specs.Laws.{OneSpec}
 use Rattle.top_call.specs.Output.{Text, SettlesItself, IsSafe, IsNoSpec, Decides, Judges, OfFile, Says, Answers, limit, line}
 use Rattle.top_call.specs.declared.status.Status.{Status}
 use Rattle.top_call.specs.declared.status.Status.TheVariants.{Unreachable, Undecided, BadWords, BadSpec, TooLong, ReadFault, WriteFault, Memory}

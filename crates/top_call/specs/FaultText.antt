@@ -1,11 +1,12 @@
 -- How a fault of an input text is reported. This project's own.
 use Rattle.std.specs.Prelude.{ℕ, List, [], ◌∷◌, ◌++◌, codes}
 use Rattle.std.specs.Fmt.{decimal}
-use Rattle.timbuk_reader.specs.declared.fault.SpecFault.{SpecFault}
-use Rattle.timbuk_reader.specs.declared.fault.SpecKind.{SpecKind}
-use Rattle.timbuk_reader.specs.declared.fault.SpecKind.TheVariants as kind
-use Rattle.timbuk_reader.specs.declared.fault.LimitName.{LimitName}
-use Rattle.timbuk_reader.specs.declared.fault.LimitName.TheVariants as limit
+use Rattle.spec_text.specs.declared.fault.SpecFault.{SpecFault}
+use Rattle.spec_text.specs.declared.fault.SpecKind.{SpecKind}
+use Rattle.spec_text.specs.declared.fault.SpecKind.TheVariants as kind
+use Rattle.spec_text.specs.declared.fault.LimitName.{LimitName}
+use Rattle.spec_text.specs.declared.fault.LimitName.TheVariants as limit
+use Rattle.spec_text.specs.Limits.{most}
 
 abbrev pub limit_name : LimitName → List ℕ
 limit_name limit.NameBytes = codes "name-bytes"
@@ -23,22 +24,6 @@ limit_name limit.Systems = codes "systems"
 limit_name limit.EquationSections = codes "equation-sections"
 limit_name limit.Approximations = codes "approximations"
 
-abbrev pub limit_number : LimitName → ℕ
-limit_number limit.NameBytes = 255
-limit_number limit.Symbols = 4096
-limit_number limit.Declared = 1024
-limit_number limit.Arity = 16
-limit_number limit.Nesting = 100
-limit_number limit.Variables = 16
-limit_number limit.Rules = 4096
-limit_number limit.Equations = 1024
-limit_number limit.Entries = 1024
-limit_number limit.States = 16384
-limit_number limit.Automata = 2
-limit_number limit.Systems = 1
-limit_number limit.EquationSections = 1
-limit_number limit.Approximations = 1
-
 -- the name of a kind, and of a limit with its number
 abbrev pub kind_text : SpecKind → List ℕ
 kind_text kind.BadByte = codes "BadByte"
@@ -48,7 +33,7 @@ kind_text kind.UnknownSection = codes "UnknownSection"
 kind_text kind.NoInitial = codes "NoInitial"
 kind_text kind.WrongArity = codes "WrongArity"
 kind_text kind.Expected = codes "Expected"
-kind_text (kind.Limit name) = codes "Limit " ++ (limit_name name ++ 32 ∷ decimal (limit_number name))
+kind_text (kind.Limit name) = codes "Limit " ++ (limit_name name ++ 32 ∷ decimal (most name))
 kind_text kind.UnknownName = codes "UnknownName"
 kind_text kind.DoubleName = codes "DoubleName"
 kind_text kind.VariableLeft = codes "VariableLeft"

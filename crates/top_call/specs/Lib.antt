@@ -3,7 +3,6 @@ pub mod FaultText
 pub mod Output
 pub mod Codes
 pub mod Closing
-pub mod Meeting
 pub mod Slots
 pub mod Uses
 pub mod Products

@@ -8,9 +8,9 @@ use Rattle.ta_core.specs.Languages.{Accepts}
 use Rattle.ta_core.specs.Acceptance.{IsAccepted}
 use Rattle.ta_core.specs.Reachability.{Reachable, Forbidden}
 use Rattle.tim_io.specs.Whole.{TookAtMost, TookJust, AppendsPart}
-use Rattle.timbuk_reader.specs.declared.fault.SpecFault.{SpecFault}
-use Rattle.timbuk_reader.specs.SpecText.{SpecText}
-use Rattle.timbuk_reader.specs.Faults.{SpecFaultAt}
+use Rattle.spec_text.specs.declared.fault.SpecFault.{SpecFault}
+use Rattle.spec_text.specs.SpecText.{SpecText}
+use Rattle.spec_text.specs.Faults.{SpecFaultAt}
 use Rattle.top_call.specs.Words.{file_of}
 use Rattle.top_call.specs.FaultText.{fault_line}
 use Rattle.top_call.specs.declared.status.Status.{Status}

@@ -2,7 +2,7 @@
 use Rattle.std.specs.Prelude.{◌≡◌, ℕ, Bool, ◌==◌, ◌&&◌, List, [], ◌++◌, length, zip, Some, slice_get, All, Contains}
 use Rattle.ta_core.specs.TreeAutomaton.{TreeAutomaton}
 use Rattle.ta_core.specs.declared.trans.Trans.{Trans}
-use Rattle.top_call.specs.Meeting.{Meets}
+use Rattle.ta_core.specs.Meeting.{Meets}
 use Rattle.top_call.specs.declared.missing.uses.Use.{Use}
 
 -- two automata

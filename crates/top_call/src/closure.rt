@@ -1,7 +1,6 @@
 //! Whether an automaton is closed under rules. Every assignment of states to the variables of a rule is tried, up to the
 //! first at which the rule leads out of the automaton.
-ghost use Rattle.std.specs.Prelude.{◌≡◌, ◌↔◌, ◌==◌, ℕ, IsTrue, IfOk, OnOk, All, Contains};
-ghost use Rattle.std.specs.List.{position_or_len};
+ghost use Rattle.std.specs.Prelude.{◌≡◌, ◌↔◌, ℕ, IsTrue, IfOk, OnOk, All, Contains};
 ghost use Rattle.ranked_terms.specs.Terms.{assigned};
 ghost use Rattle.ta_core.specs.TreeAutomaton.{IsSound};
 ghost use Rattle.ta_core.specs.Runs.{Runs};
@@ -9,10 +8,10 @@ ghost use Rattle.ta_core.specs.Closure.{IsClosedUnder, Closed, state_in};
 ghost use Rattle.ta_core.specs.ClosureLaws.{IsClosedAt};
 ghost use Rattle.top_call.specs.Closing.{IsClosedFrom};
 
-use ranked_terms::{Config, Pattern, Seq};
+use ranked_terms::Pattern;
 use std::alloc::{AllocError, Global};
 use ta_core::laws::closed_automata_have_no_open_pair;
-use ta_core::{Automaton, StateSet};
+use ta_core::{Automaton, StateSet, assign};
 use trs_rules::Rule;
 
 /// Whether the automaton is closed under the rules. The only error is running out of memory.
@@ -110,45 +109,4 @@ fn has_all(set: &StateSet, states: &[u32]) -> bool
     ensures { IsTrue result ↔ All (Contains set.now) states.now }
 {
     states.iter().all(|state| set.contains(*state))
-}
-
-/// The pattern with the states for its variables, both in the same order. The only error is running out of memory.
-fn assign(
-    alloc: Global,
-    pattern: &Pattern,
-    variables: &[u32],
-    states: &[u32],
-) -> Result<Config, AllocError>
-    ensures { IfOk result (λ config. config ≡ assigned (state_in variables.now states.now) pattern.now) }
-{
-    match pattern {
-        Pattern::Var(variable) => Ok(Config::State(state_of(*variable, variables, states))),
-        Pattern::App(sym, args) => {
-            let mut configs = Seq::new(alloc);
-            for arg in args.as_slice() {
-                configs.push(assign(alloc, arg, variables, states)?)?;
-            }
-            Ok(Config::App(*sym, configs))
-        }
-    }
-}
-
-/// The state at the variable's place among the variables, and 0 where there is none.
-fn state_of(variable: u32, variables: &[u32], states: &[u32]) -> u32
-    ensures { result ≡ state_in variables.now states.now variable }
-{
-    states
-        .get(place_of(variable, variables))
-        .copied()
-        .unwrap_or(0)
-}
-
-/// The variable's place among the variables, and their number where it is none of them.
-fn place_of(variable: u32, variables: &[u32]) -> usize
-    ensures { result ≡ position_or_len (λ other. variable == other) variables.now }
-{
-    variables
-        .iter()
-        .position(|other| variable == *other)
-        .unwrap_or(variables.len())
 }

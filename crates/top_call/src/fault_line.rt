@@ -1,6 +1,6 @@
 //! How a fault of an input text is reported.
 ghost use Rattle.std.specs.Prelude.{◌≡◌, IfOk, codes, string_bytes};
-ghost use Rattle.timbuk_reader.specs.declared.fault.SpecKind.TheVariants as kind;
+ghost use Rattle.spec_text.specs.declared.fault.SpecKind.TheVariants as kind;
 ghost use Rattle.top_call.specs.FaultText as texts;
 
 use std::alloc::{AllocError, Global};
@@ -42,7 +42,7 @@ fn limit_text(alloc: Global, limit: LimitName) -> Result<String, AllocError>
     ensures { IfOk result (λ text. string_bytes text ≡ texts.kind_text (kind.Limit limit)) }
 {
     let name = limit_name(limit);
-    let number = limit_number(limit);
+    let number = limit.most();
     format!(in alloc; "Limit {name} {number}")
 }
 
@@ -65,21 +65,5 @@ fn limit_name(limit: LimitName) -> &'static str
         LimitName::Systems => "systems",
         LimitName::EquationSections => "equation-sections",
         LimitName::Approximations => "approximations",
-    }
-}
-
-/// The number of a limit.
-fn limit_number(limit: LimitName) -> u32
-    ensures { result ≡ texts.limit_number limit }
-{
-    match limit {
-        LimitName::NameBytes => 255,
-        LimitName::Symbols | LimitName::Rules => 4096,
-        LimitName::Declared | LimitName::Equations | LimitName::Entries => 1024,
-        LimitName::Arity | LimitName::Variables => 16,
-        LimitName::Nesting => 100,
-        LimitName::States => 16384,
-        LimitName::Automata => 2,
-        LimitName::Systems | LimitName::EquationSections | LimitName::Approximations => 1,
     }
 }

@@ -11,7 +11,7 @@
 ghost use Rattle.std.specs.Prelude.{◌≡◌, ◌↔◌, ℕ, IsTrue, IfOk, OnOk, Contains};
 ghost use Rattle.ta_core.specs.TreeAutomaton.{IsSound};
 ghost use Rattle.ta_core.specs.declared.trans.Trans.{Trans as Transition};
-ghost use Rattle.top_call.specs.Meeting.{Meets, HaveNoCommonTerm};
+ghost use Rattle.ta_core.specs.Meeting.{Meets, HaveNoCommonTerm};
 ghost use Rattle.top_call.specs.Products.{AllMeet, Keeps, StepsTo, Enters, EntersBy, EntersAt, Starts, AreNotBothFinal};
 ghost use Rattle.top_call.specs.Uses.{IsUseOf};
 

@@ -2,7 +2,7 @@ use Rattle.std.proofs.Common.{ℕ, ◌<◌, List, All, ◌∷◌, [], ◌++◌, 
 use Rattle.std.specs.List.{range_with_len}
 use Rattle.std.specs.List.Sorted.{IsStrictlySortedBy}
 use Rattle.std.specs.Ordering.{nat_cmp}
-use Rattle.timbuk_reader.proofs.ReaderSpec.{numbers_more, numbers_ascend, numbers_below}
+use Rattle.timbuk_reader.proofs.keeping.Automata.{numbers_more, numbers_ascend, numbers_below}
 use Rattle.timbuk_reader.proofs.reader.automaton_of_states.Goals as goal
 
 pub loop-state-preserved : goal.loop-state-preserved

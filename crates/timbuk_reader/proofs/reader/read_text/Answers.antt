@@ -1,10 +1,11 @@
 use Rattle.std.proofs.Common.{◌≡◌, Err, sym, ap, ◌∙◌, subst}
 use Rattle.std.proofs.lemmas.Result.{err_from_is_err_and}
-use Rattle.timbuk_reader.specs.Reading.{read}
-use Rattle.timbuk_reader.specs.Spelled.{IsSpecOf}
+use Rattle.spec_text.specs.Reading.{read}
+use Rattle.spec_text.specs.Spelled.{IsSpecOf}
 use Rattle.timbuk_reader.specs.View.{as_error, state_of}
-use Rattle.timbuk_reader.proofs.ReaderSpecText.{fresh_start}
-use Rattle.timbuk_reader.proofs.ReaderWhole.{ReadTo, read_from, stopped, settled_ok, any_last}
+use Rattle.timbuk_reader.proofs.keeping.Start.{fresh_start}
+use Rattle.timbuk_reader.proofs.keeping.Texts.{ReadTo, read_from, stopped, settled_ok}
+use Rattle.spec_text.specs.lemmas.Specs.{any_last}
 use Rattle.timbuk_reader.specs.declared.fault.SpecError.TheVariants as error
 use Rattle.timbuk_reader.proofs.reader.read_text.Goals as goal
 

@@ -4,9 +4,9 @@ use Rattle.ranked_terms.specs.declared.term.Pattern.{Pattern}
 use Rattle.ranked_terms.specs.declared.term.Shape.{Shape}
 use Rattle.ranked_terms.specs.declared.term.Shape.TheVariants as shape
 use Rattle.ta_core.specs.SpecRules.{shape_is_below}
-use Rattle.timbuk_reader.specs.Naming.{shape_of}
-use Rattle.timbuk_reader.proofs.ReaderFits.{not_below}
-use Rattle.timbuk_reader.proofs.ReaderSides.{shape_app}
+use Rattle.spec_text.specs.Naming.{shape_of}
+use Rattle.timbuk_reader.proofs.keeping.Fits.{not_below}
+use Rattle.spec_text.specs.lemmas.Shapes.{shape_of_app}
 use Rattle.timbuk_reader.proofs.rules.+pattern_of.Goals as goal
 
 -- where no pattern is found, a state stands in the shape
@@ -22,5 +22,5 @@ returns-in_default t c =
 pub returns-after-loop-arg : goal.returns-after-loop-arg
 returns-after-loop-arg t c =
     let items = c.as_slice-arg-items.result.now in
-    shape_app c.in-App.sym c.loop-arg.patterns
+    shape_of_app c.in-App.sym c.loop-arg.patterns
     ∙ ap (shape.App c.in-App.sym) (c.loop-arg.invariant ∙ take_all c.loop-arg.arg-index items c.loop-arg-test.false ∙ c.as_slice-arg-items.ensures) ∙ sym c.in-App.is

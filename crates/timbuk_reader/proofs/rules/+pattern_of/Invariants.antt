@@ -1,5 +1,5 @@
 use Rattle.std.proofs.Common.{◌≡◌, map, take}
-use Rattle.timbuk_reader.specs.Naming.{shape_of}
+use Rattle.spec_text.specs.Naming.{shape_of}
 use Rattle.timbuk_reader.proofs.rules.+pattern_of.Given as goal
 
 abbrev pub invariant-loop-arg : goal.invariant-loop-arg

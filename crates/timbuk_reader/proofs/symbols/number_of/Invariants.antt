@@ -1,5 +1,5 @@
 use Rattle.std.proofs.Common.{◌≡◌, ◌≤◌, min, take}
-use Rattle.timbuk_reader.specs.Declarations.{value_of}
+use Rattle.spec_text.specs.Declarations.{value_of}
 use Rattle.timbuk_reader.proofs.symbols.number_of.Given as goal
 
 abbrev pub invariant-loop-digit : goal.invariant-loop-digit

@@ -1,6 +1,6 @@
 use Rattle.std.proofs.Common.{map, All, ap, sym, ◌∙◌, subst}
 use Rattle.timbuk_reader.specs.Tokens.{token_of, IsSlice}
-use Rattle.timbuk_reader.proofs.TokenSlices.{slices_of}
+use Rattle.timbuk_reader.proofs.keeping.Slices.{slices_of}
 use Rattle.timbuk_reader.proofs.token.tokens.Goals as goal
 
 pub returns-clause-slices : goal.returns-clause-slices

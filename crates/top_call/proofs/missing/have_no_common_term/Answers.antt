@@ -1,6 +1,6 @@
 use Rattle.std.proofs.Common.{◌↔◌, IsTrue, subst, rules, tests}
 use Rattle.std.proofs.lemmas.Iterator.{cases_from_all, YieldsList-from_slice}
-use Rattle.top_call.specs.Meeting.{HaveNoCommonTerm}
+use Rattle.ta_core.specs.Meeting.{HaveNoCommonTerm}
 use Rattle.top_call.specs.Products.{TwoAutomata, AreNotBothFinal}
 use Rattle.top_call.proofs.CommonTerms.{no_final_by, misses_by}
 use Rattle.top_call.proofs.missing.have_no_common_term.Goals as goal

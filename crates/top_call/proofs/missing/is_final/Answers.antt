@@ -1,5 +1,5 @@
 use Rattle.std.proofs.Common.{◌∙◌, sym}
-use Rattle.ta_core.proofs.Lookups.{search_finds}
+use Rattle.list_laws.proofs.Lookups.{search_finds}
 use Rattle.top_call.proofs.missing.is_final.Goals as goal
 
 pub returns : goal.returns

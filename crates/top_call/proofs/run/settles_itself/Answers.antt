@@ -1,4 +1,4 @@
-use Rattle.top_call.specs.Meeting.{HaveNoCommonTerm}
+use Rattle.ta_core.specs.Meeting.{HaveNoCommonTerm}
 use Rattle.top_call.proofs.Verdicts.{meets_unsettled, settles_by_both}
 use Rattle.top_call.proofs.run.settles_itself.Goals as goal
 

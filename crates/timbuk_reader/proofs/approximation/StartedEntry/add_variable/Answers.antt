@@ -1,6 +1,6 @@
 use Rattle.std.proofs.Common.{sym, ap, ◌∙◌, ◌==◌}
 use Rattle.std.specs.List.{list_any}
-use Rattle.timbuk_reader.proofs.ReaderApproximation.{own_new, own_bound, own_there}
+use Rattle.timbuk_reader.proofs.keeping.Approximation.{own_new, own_bound, own_there}
 use Rattle.timbuk_reader.proofs.approximation.StartedEntry.add_variable.Goals as goal
 use Rattle.timbuk_reader.proofs.approximation.StartedEntry.add_variable.Goals.{else-not-contains-via-then-not-contains+else-not-contains-2, else-not-contains-via-else-not-contains}
 

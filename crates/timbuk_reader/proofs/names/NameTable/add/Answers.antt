@@ -1,4 +1,4 @@
-use Rattle.timbuk_reader.proofs.ReaderNames.{added-names, added-are}
+use Rattle.timbuk_reader.proofs.keeping.Names.{added-names, added-are}
 use Rattle.timbuk_reader.proofs.names.NameTable.add.Goals as goal
 
 pub invariant_of-self-2 : goal.invariant_of-self-2

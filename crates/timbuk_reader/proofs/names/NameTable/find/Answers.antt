@@ -1,5 +1,5 @@
 use Rattle.std.proofs.Common.{◌∙◌}
-use Rattle.timbuk_reader.proofs.ReaderNames.{position-texts}
+use Rattle.timbuk_reader.proofs.keeping.Names.{position-texts}
 use Rattle.timbuk_reader.proofs.names.NameTable.find.Goals as goal
 
 pub returns-in_err-number : goal.returns-in_err-number

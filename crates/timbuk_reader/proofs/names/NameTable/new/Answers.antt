@@ -1,4 +1,4 @@
-use Rattle.timbuk_reader.proofs.ReaderNames.{texts-empty}
+use Rattle.timbuk_reader.proofs.keeping.Names.{texts-empty}
 use Rattle.timbuk_reader.proofs.names.NameTable.new.Goals as goal
 
 pub invariant_of-result : goal.invariant_of-result

@@ -9,14 +9,14 @@ decreases-pattern l = length l.self.now.tokens.now
 abbrev pub decreases-arguments : goal.decreases-arguments
 decreases-arguments l = length l.self.now.tokens.now
 
-abbrev pub invariant-arguments-loop-place : goal.invariant-arguments-loop-place
-invariant-arguments-loop-place l = record {
+abbrev pub invariant-arguments-loop-role : goal.invariant-arguments-loop-role
+invariant-arguments-loop-role l = record {
   few : length l.args ≤ l.arity;
   some : 0 < length l.args;
   shorter : Shorter l.fn.self l.self;
-  filled : Filled l.place l.sym l.arity l.depth l.fn.self l.args l.self;
-  fits : AllFit l.place l.fn.self l.args l.self;
+  filled : Filled l.role l.sym l.arity l.depth l.fn.self l.args l.self;
+  fits : AllFit l.role l.fn.self l.args l.self;
 }
 
-abbrev pub decreases-arguments-loop-place : goal.decreases-arguments-loop-place
-decreases-arguments-loop-place l = length l.self.tokens.now
+abbrev pub decreases-arguments-loop-role : goal.decreases-arguments-loop-role
+decreases-arguments-loop-role l = length l.self.tokens.now

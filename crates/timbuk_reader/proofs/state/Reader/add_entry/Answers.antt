@@ -1,7 +1,7 @@
 use Rattle.std.proofs.Common.{length}
 use Rattle.ta_core.specs.SpecRules.{entries_are_over, entries_are_below, entries_are_small}
 use Rattle.timbuk_reader.specs.ApproximationReads.{entry_of}
-use Rattle.timbuk_reader.proofs.ReaderApproximation.{pushed, entry_over, entry_below, entry_small}
+use Rattle.timbuk_reader.proofs.keeping.Approximation.{pushed, entry_over, entry_below, entry_small}
 use Rattle.timbuk_reader.proofs.state.Reader.add_entry.Goals as goal
 
 pub invariant_of-self-clause-entries_over : goal.invariant_of-self-clause-entries_over

@@ -1,6 +1,6 @@
 use Rattle.std.proofs.Common.{◌+◌, ap}
-use Rattle.timbuk_reader.specs.Declarations.{Declared, adds}
-use Rattle.timbuk_reader.proofs.ReaderAutomaton.{extra_own, extra_finals, extra_trans, extra_eps}
+use Rattle.spec_text.specs.Declarations.{Declared, adds}
+use Rattle.timbuk_reader.proofs.keeping.Automaton.{extra_own, extra_finals, extra_trans, extra_eps}
 use Rattle.timbuk_reader.proofs.state.Reader.add_extra_state.Goals as goal
 
 pub returns-clause-ok : goal.returns-clause-ok

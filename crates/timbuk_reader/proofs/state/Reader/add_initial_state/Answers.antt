@@ -1,5 +1,5 @@
-use Rattle.timbuk_reader.proofs.StepsNames.{no_position}
-use Rattle.timbuk_reader.proofs.ReaderAutomaton.{longer, own_longer, below_grows, eps_grow, trans_grow, no_entries_below}
+use Rattle.timbuk_reader.proofs.parsing.Names.{no_position}
+use Rattle.timbuk_reader.proofs.keeping.Automaton.{longer, own_longer, below_grows, eps_grow, trans_grow, no_entries_below}
 use Rattle.timbuk_reader.proofs.state.Reader.add_initial_state.Goals as goal
 
 pub add-requires-clause-new : goal.add-requires-clause-new

@@ -1,10 +1,10 @@
 use Rattle.std.proofs.Common.{◌≡◌, false, List, subst, ap, ◌∙◌}
 use Rattle.indexmap.proofs.MapLemmas.{OnOk-map}
-use Rattle.timbuk_reader.specs.Declarations.{Text}
-use Rattle.timbuk_reader.specs.Rows.{is_in}
+use Rattle.spec_text.specs.Declarations.{Text}
+use Rattle.spec_text.specs.Rows.{is_in}
 use Rattle.timbuk_reader.specs.View.{state_of, started}
-use Rattle.timbuk_reader.proofs.StepsNames.{no_position}
-use Rattle.timbuk_reader.proofs.ReaderAutomaton.{longer, below_grows, eps_grow, trans_grow, states_of_second, second_added, first_added}
+use Rattle.timbuk_reader.proofs.parsing.Names.{no_position}
+use Rattle.timbuk_reader.proofs.keeping.Automaton.{longer, below_grows, eps_grow, trans_grow, states_of_second, second_added, first_added}
 use Rattle.timbuk_reader.proofs.state.Reader.add_own_state.Goals as goal
 
 pub add-requires-clause-new : goal.add-requires-clause-new

@@ -1,4 +1,4 @@
-use Rattle.timbuk_reader.proofs.ReaderTokens.{tail_words}
+use Rattle.timbuk_reader.proofs.keeping.Words.{tail_words}
 use Rattle.timbuk_reader.proofs.state.Reader.advance.Goals as goal
 
 pub invariant_of-self-clause-words : goal.invariant_of-self-clause-words

@@ -1,12 +1,12 @@
 use Rattle.std.proofs.Common.{length}
 use Rattle.timbuk_grammar.specs.Grammar.{many, name}
-use Rattle.timbuk_grammar.specs.declared.terminal.Place.TheVariants as place
+use Rattle.timbuk_grammar.specs.declared.terminal.Role.TheVariants as role
 use Rattle.timbuk_reader.specs.Reads.{Turns}
 use Rattle.timbuk_reader.specs.AutomatonReads.{IsInAutomaton, NoLonger}
 use Rattle.timbuk_reader.proofs.state.Reader.all_finals.Given as goal
 
 abbrev pub invariant-loop-self : goal.invariant-loop-self
-invariant-loop-self l = record { turns : Turns (many (name place.FinalState)) l.fn.self (many (name place.FinalState)) l.self; inside : IsInAutomaton l.self; no_longer : NoLonger l.fn.self l.self }
+invariant-loop-self l = record { turns : Turns (many (name role.FinalState)) l.fn.self (many (name role.FinalState)) l.self; inside : IsInAutomaton l.self; no_longer : NoLonger l.fn.self l.self }
 
 abbrev pub decreases-loop-self : goal.decreases-loop-self
 decreases-loop-self l = length l.self.tokens.now

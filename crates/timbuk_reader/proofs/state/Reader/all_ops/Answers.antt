@@ -1,16 +1,16 @@
 use Rattle.std.proofs.Common.{arith, sym, ◌∙◌}
 use Rattle.std.proofs.lemmas.Grind.{common_steps}
 use Rattle.timbuk_grammar.specs.Grammar.{many, op, one, ◌then◌}
-use Rattle.timbuk_grammar.specs.declared.terminal.Place.TheVariants as place
+use Rattle.timbuk_grammar.specs.declared.terminal.Role.TheVariants as role
 use Rattle.timbuk_grammar.specs.declared.terminal.Terminal.TheVariants as terminal
 use Rattle.timbuk_reader.specs.View.{closed}
 use Rattle.timbuk_reader.specs.Reads.{Stops}
-use Rattle.timbuk_reader.proofs.Steps.{turns_err, then_head}
+use Rattle.timbuk_reader.proofs.parsing.Parts.{turns_err, then_head}
 use Rattle.timbuk_reader.proofs.state.Reader.all_ops.Goals as goal
 
 pub returns-in_err-op-clause-reads : goal.returns-in_err-op-clause-reads
 returns-in_err-op-clause-reads c =
     let e = c.in_err-op.field-0.0 in
     let stops : Stops (many op) closed c.args.self.now e =
-    turns_err op (terminal.Named place.Symbol) c.args.self.now c.loop-self.self e c.loop-self.invariant.turns (then_head (terminal.Named place.Symbol) (one terminal.Colon then one terminal.Number)) (sym c.sees.ensures.value ∙ c.loop-self-test.true) c.in_err-op.ensures.reads in
+    turns_err op (terminal.Named role.Symbol) c.args.self.now c.loop-self.self e c.loop-self.invariant.turns (then_head (terminal.Named role.Symbol) (one terminal.Colon then one terminal.Number)) (sym c.sees.ensures.value ∙ c.loop-self-test.true) c.in_err-op.ensures.reads in
     grind (arith, common_steps)

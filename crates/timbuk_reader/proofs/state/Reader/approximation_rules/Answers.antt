@@ -4,7 +4,7 @@ use Rattle.timbuk_grammar.specs.Grammar.{many, approximation_rule}
 use Rattle.timbuk_grammar.specs.declared.terminal.Terminal.TheVariants as terminal
 use Rattle.timbuk_reader.specs.View.{closed}
 use Rattle.timbuk_reader.specs.Reads.{Stops}
-use Rattle.timbuk_reader.proofs.Steps.{turns_err, then_head}
+use Rattle.timbuk_reader.proofs.parsing.Parts.{turns_err, then_head}
 use Rattle.timbuk_reader.proofs.state.Reader.approximation_rules.Goals as goal
 
 pub returns-in_err-approximation_rule-clause-reads : goal.returns-in_err-approximation_rule-clause-reads

@@ -1,12 +1,12 @@
 use Rattle.std.proofs.Common.{◌≡◌, ◌≤◌, ◌<◌, min, arith, refl, ap, ◌∙◌}
 use Rattle.timbuk_grammar.specs.declared.terminal.Terminal.TheVariants as terminal
-use Rattle.timbuk_reader.specs.declared.fault.SpecKind.TheVariants as kind
-use Rattle.timbuk_reader.specs.declared.fault.LimitName.TheVariants as limit
-use Rattle.timbuk_reader.specs.Declarations.{adds, value_of}
+use Rattle.spec_text.specs.declared.fault.SpecKind.TheVariants as kind
+use Rattle.spec_text.specs.declared.fault.LimitName.TheVariants as limit
+use Rattle.spec_text.specs.Declarations.{adds, value_of}
 use Rattle.timbuk_reader.specs.View.{closed, naming, declared}
-use Rattle.timbuk_reader.proofs.StepsTokens.{word_leads, word_stops, naming_calm}
-use Rattle.timbuk_reader.proofs.StepsNames.{large_number, small_number}
-use Rattle.timbuk_reader.proofs.ReaderFresh.{fresh_rules, fresh_equations, fresh_entries, fresh_initial, fresh_second}
+use Rattle.timbuk_reader.proofs.parsing.Tokens.{word_advances, word_stops, naming_calm}
+use Rattle.timbuk_reader.proofs.parsing.Names.{large_number, small_number}
+use Rattle.timbuk_reader.proofs.keeping.Fresh.{fresh_rules, fresh_equations, fresh_entries, fresh_initial, fresh_second}
 use Rattle.timbuk_reader.proofs.state.Reader.arity.Goals as goal
 
 pub returns-then-arity-gt-MAX_ARITY-clause-reads : goal.returns-then-arity-gt-MAX_ARITY-clause-reads
@@ -43,6 +43,6 @@ returns-in-Ok-clause-reads c =
     let number : c.number_of-arity.result ≡ min (value_of text) 17 = c.number_of-arity.ensures ∙ ap (λ z. min (value_of z) 17) c.as_bytes.ensures.value in
     let small : value_of text ≤ 16 = omega arith in
     let exact : c.number_of-arity.result ≡ value_of text = omega arith in
-    word_leads terminal.Number (naming c.args.name.now) closed r c.advance.new.self text c.advance.result.now tt (naming_calm c.args.name.now) stands
+    word_advances terminal.Number (naming c.args.name.now) closed r c.advance.new.self text c.advance.result.now tt (naming_calm c.args.name.now) stands
     (small_number text (declared (naming c.args.name.now) r) stands.short small) c.advance.ensures.token c.advance.ensures.end
     (c.advance.ensures.state ∙ rw (c.in-Ok.ensures.added, exact) refl)

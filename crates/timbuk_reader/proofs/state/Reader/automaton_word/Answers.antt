@@ -1,9 +1,9 @@
 use Rattle.std.proofs.Common.{◌+◌, arith, sym, ap, ◌∙◌}
 use Rattle.timbuk_grammar.specs.declared.terminal.Terminal.TheVariants as terminal
-use Rattle.timbuk_reader.specs.Declarations.{Declared}
+use Rattle.spec_text.specs.Declarations.{Declared}
 use Rattle.timbuk_reader.specs.View.{closed}
-use Rattle.timbuk_reader.proofs.StepsTokens.{mark_stops, closed_calm}
-use Rattle.timbuk_reader.proofs.StepsAutomaton.{third_stops, automaton_leads}
+use Rattle.timbuk_reader.proofs.parsing.Tokens.{mark_stops, closed_calm}
+use Rattle.timbuk_reader.proofs.parsing.Automaton.{third_stops, automaton_advances}
 use Rattle.timbuk_reader.proofs.state.Reader.automaton_word.Goals as goal
 
 pub returns-then-not-sees-clause-reads : goal.returns-then-not-sees-clause-reads
@@ -16,5 +16,5 @@ returns-then-self-ge-MAX_AUTOMATA-clause-reads c =
 
 pub returns-clause-reads : goal.returns-clause-reads
 returns-clause-reads c =
-    automaton_leads c.args.self.now _ c.advance.result.now (omega arith) (sym c.sees.ensures.value ∙ c.if-not-sees.false) c.advance.ensures.token c.advance.ensures.end
+    automaton_advances c.args.self.now _ c.advance.result.now (omega arith) (sym c.sees.ensures.value ∙ c.if-not-sees.false) c.advance.ensures.token c.advance.ensures.end
     (ap (λ (d : Declared). record d { automata = d.automata + 1 }) c.advance.ensures.state)

@@ -3,7 +3,7 @@ use Rattle.timbuk_grammar.specs.Grammar.{one, many, description}
 use Rattle.timbuk_grammar.specs.declared.terminal.Terminal.TheVariants as terminal
 use Rattle.timbuk_reader.specs.View.{closed}
 use Rattle.timbuk_reader.specs.AutomatonReads.{described}
-use Rattle.timbuk_reader.proofs.Steps.{then_reads, maybe_reads, then_head}
+use Rattle.timbuk_reader.proofs.parsing.Parts.{then_reads, maybe_reads, then_head}
 use Rattle.timbuk_reader.proofs.state.Reader.description.Goals as goal
 
 pub returns-clause-reads : goal.returns-clause-reads

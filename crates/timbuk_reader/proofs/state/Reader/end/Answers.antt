@@ -1,6 +1,6 @@
 use Rattle.std.proofs.Common.{◌≡◌, [], sym, ◌∙◌, arith, rules}
 use Rattle.timbuk_lex.specs.declared.lex.Ending.TheVariants.{Whole}
-use Rattle.timbuk_reader.proofs.StepsSections.{no_token, end_is_whole}
+use Rattle.timbuk_reader.proofs.parsing.Sections.{no_token, end_is_whole}
 use Rattle.timbuk_reader.proofs.state.Reader.end.Goals as goal
 
 pub returns-clause-ok : goal.returns-clause-ok

@@ -3,8 +3,8 @@ use Rattle.std.proofs.lemmas.Grind.{common_steps}
 use Rattle.timbuk_grammar.specs.Grammar.{some, entry, many}
 use Rattle.timbuk_reader.specs.Reads.{Stops}
 use Rattle.timbuk_reader.specs.ApproximationReads.{formed}
-use Rattle.timbuk_reader.proofs.Steps.{then_stops}
-use Rattle.timbuk_reader.proofs.StepsApproximationRules.{enters_first, next_entry_stops}
+use Rattle.timbuk_reader.proofs.parsing.Parts.{then_stops}
+use Rattle.timbuk_reader.proofs.parsing.ApproximationRules.{enters_first, next_entry_stops}
 use Rattle.timbuk_reader.proofs.state.Reader.entries.Goals as goal
 
 pub returns-in_err-entry-clause-reads : goal.returns-in_err-entry-clause-reads

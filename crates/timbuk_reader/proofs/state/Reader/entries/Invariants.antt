@@ -1,7 +1,7 @@
 use Rattle.std.proofs.Common.{length}
 use Rattle.timbuk_reader.specs.AutomatonReads.{NoLonger}
 use Rattle.timbuk_reader.specs.ApproximationReads.{OnlyEntries}
-use Rattle.timbuk_reader.proofs.StepsApproximationRules.{Enters}
+use Rattle.timbuk_reader.proofs.parsing.ApproximationRules.{Enters}
 use Rattle.timbuk_reader.proofs.state.Reader.entries.Given as goal
 
 abbrev pub invariant-loop-self : goal.invariant-loop-self

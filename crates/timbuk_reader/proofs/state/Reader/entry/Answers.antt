@@ -4,8 +4,8 @@ use Rattle.timbuk_grammar.specs.Grammar.{entry}
 use Rattle.timbuk_grammar.specs.declared.terminal.Terminal.TheVariants as terminal
 use Rattle.timbuk_reader.specs.Reads.{Stops}
 use Rattle.timbuk_reader.specs.ApproximationReads.{formed}
-use Rattle.timbuk_reader.proofs.StepsApproximationRules.{entry_stops_at_head, entry_stops_in_arguments, entry_stops_at_arrow, entry_stops_at_target, entry_leads, target_leads, took_same, only_then}
-use Rattle.timbuk_reader.proofs.ReaderApproximation.{started_kept}
+use Rattle.timbuk_reader.proofs.parsing.ApproximationRules.{entry_stops_at_head, entry_stops_in_arguments, entry_stops_at_arrow, entry_stops_at_target, entry_advances, target_advances, took_same, only_then}
+use Rattle.timbuk_reader.proofs.keeping.Approximation.{started_kept}
 use Rattle.timbuk_reader.proofs.state.Reader.entry.Goals as goal
 
 pub returns-in_err-entry-clause-reads : goal.returns-in_err-entry-clause-reads
@@ -47,7 +47,7 @@ add_entry-requires-clause-started c =
 pub returns-clause-reads : goal.returns-clause-reads
 returns-clause-reads c =
     let f = c.entry_arguments.new.entry in
-    entry_leads c.args.form.now c.args.self.now c.entry_head.new.self c.in_ok-entry.entry c.in_ok-entry.ensures.ok
+    entry_advances c.args.form.now c.args.self.now c.entry_head.new.self c.in_ok-entry.entry c.in_ok-entry.ensures.ok
     c.entry_arguments.new.self f c.in_ok-entry_arguments.ensures.reads c.mark.new.self c.in_ok-mark.ensures.takes c.add_entry.new.self
-    (target_leads f c.args.form.now c.in_ok-target.target c.mark.new.self c.entry_target.new.self c.add_entry.new.self (c.in_ok-entry_arguments.ensures.head.form ∙ c.in_ok-entry.ensures.new.form_is)
+    (target_advances f c.args.form.now c.in_ok-target.target c.mark.new.self c.entry_target.new.self c.add_entry.new.self (c.in_ok-entry_arguments.ensures.head.form ∙ c.in_ok-entry.ensures.new.form_is)
     c.in_ok-target.ensures.ok c.in_ok-add_entry.ensures.added c.in_ok-add_entry.ensures.same c.in_ok-add_entry.ensures.tokens)

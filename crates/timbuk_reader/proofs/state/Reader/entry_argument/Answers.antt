@@ -1,8 +1,8 @@
 use Rattle.std.proofs.Common.{sym, subst, ◌∙◌}
-use Rattle.timbuk_grammar.specs.declared.terminal.Place.TheVariants as place
+use Rattle.timbuk_grammar.specs.declared.terminal.Role.TheVariants as role
 use Rattle.timbuk_reader.specs.ApproximationReads.{ReadsLeaf, IsLeaf, AddsArgument}
-use Rattle.timbuk_reader.proofs.StepsApproximationRules.{argument_closed, argument_leads}
-use Rattle.timbuk_reader.proofs.ReaderApproximation.{started_more}
+use Rattle.timbuk_reader.proofs.parsing.ApproximationRules.{argument_closed, argument_advances}
+use Rattle.timbuk_reader.proofs.keeping.Approximation.{started_more}
 use Rattle.timbuk_reader.proofs.state.Reader.entry_argument.Goals as goal
 
 pub returns-then-sees-clause-reads : goal.returns-then-sees-clause-reads
@@ -14,8 +14,8 @@ returns-clause-reads c =
     let e = c.args.entry.now in
     let r = c.args.self.now in
     let u = c.entry_leaf.new.self in
-    argument_leads e r c.requires.room (sym c.sees.ensures.value ∙ c.if-sees.false) u c.in_ok-arg.arg c.add_argument.new.self
-    (subst (λ own. ReadsLeaf place.EntryArgument own r c.in_ok-arg.arg u) c.as_slice.ensures c.in_ok-arg.ensures.ok)
+    argument_advances e r c.requires.room (sym c.sees.ensures.value ∙ c.if-sees.false) u c.in_ok-arg.arg c.add_argument.new.self
+    (subst (λ own. ReadsLeaf role.EntryArgument own r c.in_ok-arg.arg u) c.as_slice.ensures c.in_ok-arg.ensures.ok)
     (subst (λ bound. AddsArgument bound c.in_ok-arg.arg e c.add_argument.new.self) c.as_slice-2.ensures c.in_ok-add_argument.ensures)
 
 pub returns-clause-started : goal.returns-clause-started

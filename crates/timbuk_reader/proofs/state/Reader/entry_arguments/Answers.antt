@@ -1,12 +1,12 @@
 use Rattle.std.proofs.Common.{◌≡◌, ◌<◌, length, ap, arith}
 use Rattle.std.proofs.lemmas.Grind.{common_steps}
 use Rattle.timbuk_grammar.specs.Grammar.{name, arguments}
-use Rattle.timbuk_grammar.specs.declared.terminal.Place.TheVariants as place
+use Rattle.timbuk_grammar.specs.declared.terminal.Role.TheVariants as role
 use Rattle.timbuk_grammar.specs.declared.terminal.Terminal.TheVariants as terminal
 use Rattle.timbuk_reader.specs.Reads.{Stops}
 use Rattle.timbuk_reader.specs.ApproximationReads.{headed}
-use Rattle.timbuk_reader.proofs.StepsApproximationRules.{IsBare, none_reads, lacks_first, first_stops, first_argues, lacks_next, next_stops, next_argues, last_reads, took_same, took_shorter, only_then, head_then}
-use Rattle.timbuk_reader.proofs.ReaderApproximation.{started_kept, last_started}
+use Rattle.timbuk_reader.proofs.parsing.ApproximationRules.{IsBare, none_reads, lacks_first, first_stops, first_argues, lacks_next, next_stops, next_argues, last_reads, took_same, took_shorter, only_then, head_then}
+use Rattle.timbuk_reader.proofs.keeping.Approximation.{started_kept, last_started}
 use Rattle.timbuk_reader.proofs.state.Reader.entry_arguments.Goals as goal
 
 pub returns-then-entry-eq0-clause-reads : goal.returns-then-entry-eq0-clause-reads
@@ -19,7 +19,7 @@ returns-in_err-first_argument-clause-reads c =
     let entry = c.args.entry.now in
     let bare : IsBare entry = record { args = c.requires.none; own = c.requires.no_own } in
     let some : 0 < entry.arity = omega arith in
-    let stops : Stops (arguments (name place.EntryArgument)) (headed entry) c.args.self.now e = lacks_first entry bare c.args.self.now some e c.in_err-first_argument.ensures in
+    let stops : Stops (arguments (name role.EntryArgument)) (headed entry) c.args.self.now e = lacks_first entry bare c.args.self.now some e c.in_err-first_argument.ensures in
     grind (arith, common_steps)
 
 pub returns-in_err-entry_argument-clause-reads : goal.returns-in_err-entry_argument-clause-reads
@@ -28,7 +28,7 @@ returns-in_err-entry_argument-clause-reads c =
     let entry = c.args.entry.now in
     let bare : IsBare entry = record { args = c.requires.none; own = c.requires.no_own } in
     let some : 0 < entry.arity = omega arith in
-    let stops : Stops (arguments (name place.EntryArgument)) (headed entry) c.args.self.now e = first_stops entry bare c.args.self.now some c.first_argument.new.self e c.in_ok-first_argument.ensures c.in_err-entry_argument.ensures.reads in
+    let stops : Stops (arguments (name role.EntryArgument)) (headed entry) c.args.self.now e = first_stops entry bare c.args.self.now some c.first_argument.new.self e c.in_ok-first_argument.ensures c.in_err-entry_argument.ensures.reads in
     grind (arith, common_steps)
 
 pub loop-entry-init : goal.loop-entry-init
@@ -56,7 +56,7 @@ returns-in_err-next_argument-clause-reads c =
     let e = c.in_err-next_argument.field-0.0 in
     let f = c.loop-entry.entry in
     let less : length f.args < f.arity = omega arith in
-    let stops : Stops (arguments (name place.EntryArgument)) (headed c.args.entry.now) c.args.self.now e = lacks_next c.args.self.now c.loop-entry.self c.args.entry.now f c.loop-entry.invariant.argues less e c.in_err-next_argument.ensures in
+    let stops : Stops (arguments (name role.EntryArgument)) (headed c.args.entry.now) c.args.self.now e = lacks_next c.args.self.now c.loop-entry.self c.args.entry.now f c.loop-entry.invariant.argues less e c.in_err-next_argument.ensures in
     grind (arith, common_steps)
 
 pub entry_argument-requires-in-loop-entry-clause-started : goal.entry_argument-requires-in-loop-entry-clause-started
@@ -90,7 +90,7 @@ returns-in_err-entry_argument-2-clause-reads c =
     let e = c.in_err-entry_argument-2.field-0.0 in
     let f = c.loop-entry.entry in
     let less : length f.args < f.arity = omega arith in
-    let stops : Stops (arguments (name place.EntryArgument)) (headed c.args.entry.now) c.args.self.now e =
+    let stops : Stops (arguments (name role.EntryArgument)) (headed c.args.entry.now) c.args.self.now e =
     next_stops c.args.self.now c.loop-entry.self c.args.entry.now f c.loop-entry.invariant.argues less c.next_argument.new.self e c.in_ok-next_argument.ensures c.in_err-entry_argument-2.ensures.reads in
     grind (arith, common_steps)
 

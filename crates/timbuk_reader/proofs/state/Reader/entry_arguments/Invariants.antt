@@ -1,7 +1,7 @@
 use Rattle.std.proofs.Common.{◌≤◌, length}
 use Rattle.timbuk_reader.specs.AutomatonReads.{NoLonger}
 use Rattle.timbuk_reader.specs.ApproximationReads.{OnlyTokens, IsStarted, SameHead}
-use Rattle.timbuk_reader.proofs.StepsApproximationRules.{Argues}
+use Rattle.timbuk_reader.proofs.parsing.ApproximationRules.{Argues}
 use Rattle.timbuk_reader.proofs.state.Reader.entry_arguments.Given as goal
 
 abbrev pub invariant-loop-entry : goal.invariant-loop-entry

@@ -1,10 +1,10 @@
 use Rattle.std.proofs.Common.{refl, ap, arith}
 use Rattle.std.proofs.lemmas.Grind.{common_steps}
 use Rattle.timbuk_grammar.specs.Grammar.{equation}
-use Rattle.timbuk_reader.specs.Declarations.{Declared}
+use Rattle.spec_text.specs.Declarations.{Declared}
 use Rattle.timbuk_reader.specs.View.{closed, state_of}
 use Rattle.timbuk_reader.specs.Reads.{Stops}
-use Rattle.timbuk_reader.proofs.ReaderRules.{few_equated, equations_read, equation_left, equation_mark, equation_right, equation_whole}
+use Rattle.timbuk_reader.proofs.keeping.Rules.{few_equated, equations_read, equation_left, equation_mark, equation_right, equation_whole}
 use Rattle.timbuk_reader.proofs.state.Reader.equation.Goals as goal
 
 pub returns-in_err-left-clause-reads : goal.returns-in_err-left-clause-reads

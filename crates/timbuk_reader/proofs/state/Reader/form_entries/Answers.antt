@@ -2,7 +2,7 @@ use Rattle.std.proofs.Common.{arith}
 use Rattle.std.proofs.lemmas.Grind.{common_steps}
 use Rattle.timbuk_reader.specs.Reads.{Stops}
 use Rattle.timbuk_reader.specs.ApproximationReads.{formed, form_entries}
-use Rattle.timbuk_reader.proofs.StepsApproximationSection.{entries_stop_at_arrow, entries_stop_at_bracket, entries_stop, entries_read}
+use Rattle.timbuk_reader.proofs.parsing.ApproximationSection.{entries_stop_at_arrow, entries_stop_at_bracket, entries_stop, entries_read}
 use Rattle.timbuk_reader.proofs.state.Reader.form_entries.Goals as goal
 
 pub returns-in_err-mark-clause-reads : goal.returns-in_err-mark-clause-reads

@@ -1,7 +1,7 @@
 use Rattle.std.proofs.Common.{◌≡◌, ◌||◌, ◌+◌, length, sym, ap, ◌∙◌}
 use Rattle.std.specs.Prelude.{nat_lt}
-use Rattle.timbuk_reader.specs.Declarations.{has}
-use Rattle.timbuk_reader.proofs.ReaderApproximation.{has_any, room_is}
+use Rattle.spec_text.specs.Declarations.{has}
+use Rattle.timbuk_reader.proofs.keeping.Approximation.{has_any, room_is}
 use Rattle.timbuk_reader.proofs.state.Reader.has_room.Goals as goal
 use Rattle.timbuk_reader.proofs.state.Reader.has_room.Goals.{then-is_bound, else-is_bound}
 

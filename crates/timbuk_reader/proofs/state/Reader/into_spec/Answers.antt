@@ -1,9 +1,10 @@
 use Rattle.std.proofs.Common.{◌≡◌, ◌+◌, ◌-◌, length, refl, ap, subst, ◌∙◌, arith}
 use Rattle.ta_core.specs.SpecRules.{entries_are_below}
 use Rattle.timbuk_reader.specs.View.{started}
-use Rattle.timbuk_reader.specs.Spelled.{IsAutomatonOf}
-use Rattle.timbuk_reader.proofs.ReaderSpec.{automaton_over, states_whole, none_approximated}
-use Rattle.timbuk_reader.proofs.ReaderSpecRules.{rules_of_kept}
+use Rattle.spec_text.specs.Spelled.{IsAutomatonOf}
+use Rattle.timbuk_reader.proofs.keeping.Automata.{none_approximated}
+use Rattle.spec_text.specs.lemmas.Specs.{automaton_over, states_whole}
+use Rattle.timbuk_reader.proofs.keeping.KeptRules.{rules_of_kept}
 use Rattle.timbuk_reader.proofs.state.Reader.into_spec.Goals as goal
 
 pub invariant_of-result : goal.invariant_of-result

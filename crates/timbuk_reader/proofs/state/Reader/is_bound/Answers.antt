@@ -1,6 +1,6 @@
 use Rattle.std.proofs.Common.{◌==◌, sym, ap, ◌∙◌}
 use Rattle.std.specs.List.{list_any}
-use Rattle.timbuk_reader.proofs.ReaderNames.{is_some_position}
+use Rattle.spec_text.specs.lemmas.Variables.{is_some_position}
 use Rattle.timbuk_reader.proofs.state.Reader.is_bound.Goals as goal
 
 pub returns : goal.returns

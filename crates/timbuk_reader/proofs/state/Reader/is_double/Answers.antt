@@ -2,16 +2,16 @@ use Rattle.std.proofs.Common.{◌≡◌, ◌++◌, ◌||◌, false, sym, ap, ◌
 use Rattle.std.specs.Prelude.{is_some, position}
 use Rattle.std.specs.Str.{bytes_eq}
 use Rattle.ranked_terms.specs.Names.{names_of}
-use Rattle.timbuk_reader.specs.Rows.{is_in}
+use Rattle.spec_text.specs.Rows.{is_in}
 use Rattle.timbuk_reader.specs.AutomatonReads.{table_of}
-use Rattle.timbuk_reader.proofs.StepsNames.{is_in-position}
-use Rattle.timbuk_reader.proofs.StepsAutomaton.{double_in_table}
+use Rattle.timbuk_reader.proofs.parsing.Names.{is_in-position}
+use Rattle.timbuk_reader.proofs.parsing.Automaton.{double_in_table}
 use Rattle.timbuk_reader.proofs.state.Reader.is_double.Goals as goal
 
 pub returns-else-is_taken : goal.returns-else-is_taken
 returns-else-is_taken c =
     let r = c.args.self.now in
-    let p = c.args.place in
+    let p = c.args.role in
     let text = c.args.name.now in
     let known : is_in (names_of r.signature ++ r.variables) text ≡ false = sym c.is_taken.ensures ∙ c.if-is_taken.false in
     let found : is_in (table_of p r) text ≡ c.is_some.result =

@@ -1,8 +1,8 @@
 use Rattle.std.proofs.Common.{◌≡◌, ◌||◌, true, false, sym, ap, ◌∙◌}
 use Rattle.std.specs.Prelude.{is_some}
 use Rattle.ranked_terms.specs.Names.{names_of}
-use Rattle.timbuk_reader.specs.Rows.{is_in}
-use Rattle.timbuk_reader.proofs.StepsNames.{is_in-append, is_in-position}
+use Rattle.spec_text.specs.Rows.{is_in}
+use Rattle.timbuk_reader.proofs.parsing.Names.{is_in-append, is_in-position}
 use Rattle.timbuk_reader.proofs.state.Reader.is_taken.Goals as goal
 
 pub returns-then-is_some : goal.returns-then-is_some

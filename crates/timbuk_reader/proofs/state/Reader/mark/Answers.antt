@@ -1,5 +1,5 @@
 use Rattle.timbuk_reader.specs.View.{closed}
-use Rattle.timbuk_reader.proofs.StepsTokens.{mark_reads, closed_calm}
+use Rattle.timbuk_reader.proofs.parsing.Tokens.{mark_reads, closed_calm}
 use Rattle.timbuk_reader.proofs.state.Reader.mark.Goals as goal
 
 pub returns-clause-reads : goal.returns-clause-reads

@@ -2,7 +2,7 @@ use Rattle.std.proofs.Common.{sym, ◌∙◌}
 use Rattle.timbuk_grammar.specs.Grammar.{one, ◌then◌}
 use Rattle.timbuk_grammar.specs.declared.terminal.Terminal.TheVariants as terminal
 use Rattle.timbuk_reader.specs.View.{closed}
-use Rattle.timbuk_reader.proofs.Steps.{then_reads, maybe_reads, then_head}
+use Rattle.timbuk_reader.proofs.parsing.Parts.{then_reads, maybe_reads, then_head}
 use Rattle.timbuk_reader.proofs.state.Reader.no_arity.Goals as goal
 
 pub returns-clause-reads : goal.returns-clause-reads

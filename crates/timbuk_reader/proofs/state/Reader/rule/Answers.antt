@@ -2,10 +2,10 @@ use Rattle.std.proofs.Common.{refl, ap, arith}
 use Rattle.std.proofs.lemmas.Grind.{common_steps}
 use Rattle.timbuk_grammar.specs.declared.terminal.Terminal.TheVariants as terminal
 use Rattle.timbuk_grammar.specs.Grammar.{rule}
-use Rattle.timbuk_reader.specs.Declarations.{Declared}
+use Rattle.spec_text.specs.Declarations.{Declared}
 use Rattle.timbuk_reader.specs.View.{closed, state_of}
 use Rattle.timbuk_reader.specs.Reads.{Stops}
-use Rattle.timbuk_reader.proofs.ReaderRules.{no_rule_fault, kept_push, rules_push, rules_read, rule_left, rule_arrow, rule_right, rule_whole}
+use Rattle.timbuk_reader.proofs.keeping.Rules.{no_rule_fault, kept_push, rules_push, rules_read, rule_left, rule_arrow, rule_right, rule_whole}
 use Rattle.timbuk_reader.proofs.state.Reader.rule.Goals as goal
 
 pub returns-in_err-left-clause-reads : goal.returns-in_err-left-clause-reads

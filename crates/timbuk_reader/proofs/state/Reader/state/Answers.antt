@@ -2,13 +2,13 @@ use Rattle.std.proofs.Common.{arith, sym, ap, ◌∙◌}
 use Rattle.std.proofs.lemmas.Grind.{common_steps}
 use Rattle.timbuk_reader.specs.Meanings.{meant_by}
 use Rattle.timbuk_reader.specs.AutomatonReads.{StopsState}
-use Rattle.timbuk_reader.proofs.StepsAutomaton.{uses_means, means_nothing, state_below, unknown_stops, state_leads, applied_stops}
+use Rattle.timbuk_reader.proofs.parsing.Automaton.{uses_means, means_nothing, state_below, unknown_stops, state_advances, applied_stops}
 use Rattle.timbuk_reader.proofs.state.Reader.state.Goals as goal
 
 pub returns-in_default : goal.returns-in_default
 returns-in_default c =
     let r = c.args.self.now in
-    let p = c.args.place in
+    let p = c.args.role in
     let text = c.in_ok-name.name.now in
     record {
       shorter = tt;
@@ -21,7 +21,7 @@ returns-in_default c =
 pub returns-in_err-leaf-clause-err : goal.returns-in_err-leaf-clause-err
 returns-in_err-leaf-clause-err c =
     let r = c.args.self.now in
-    let p = c.args.place in
+    let p = c.args.role in
     let e = c.in_err-leaf.field-0.0 in
     let told = c.in_err-leaf.ensures in
     let means = sym c.meaning.ensures ∙ ap meant_by c.in-State.is in
@@ -32,13 +32,13 @@ returns-in_err-leaf-clause-err c =
 pub returns-clause-ok : goal.returns-clause-ok
 returns-clause-ok c =
     let r = c.args.self.now in
-    let p = c.args.place in
+    let p = c.args.role in
     let text = c.in_ok-name.name.now in
     let told = c.in_ok-leaf.ensures in
     let means = sym c.meaning.ensures ∙ ap meant_by c.in-State.is in
-    record { by = λ o ready. state_leads p o r (uses_means p c.requires) ready text c.in-State.state c.leaf.new.self c.in_ok-name.ensures.ok means told.0 told.1 }
+    record { by = λ o ready. state_advances p o r (uses_means p c.requires) ready text c.in-State.state c.leaf.new.self c.in_ok-name.ensures.ok means told.0 told.1 }
 
 pub returns-clause-below : goal.returns-clause-below
 returns-clause-below c =
     let told = c.in_ok-leaf.ensures in
-    state_below c.args.place c.in_ok-name.name.now c.args.self.now c.leaf.new.self c.in-State.state c.requires (sym c.meaning.ensures ∙ ap meant_by c.in-State.is) told.0.state
+    state_below c.args.role c.in_ok-name.name.now c.args.self.now c.leaf.new.self c.in-State.state c.requires (sym c.meaning.ensures ∙ ap meant_by c.in-State.is) told.0.state

@@ -4,8 +4,8 @@ use Rattle.timbuk_reader.specs.Reads.{Turns}
 use Rattle.timbuk_reader.specs.AutomatonReads.{MayDeclare, NoLonger}
 use Rattle.timbuk_reader.proofs.state.Reader.states.Given as goal
 
-abbrev pub invariant-loop-place : goal.invariant-loop-place
-invariant-loop-place l = record { turns : Turns (many (state l.place)) l.fn.self (many (state l.place)) l.self; declares : MayDeclare l.place l.self; no_longer : NoLonger l.fn.self l.self }
+abbrev pub invariant-loop-role : goal.invariant-loop-role
+invariant-loop-role l = record { turns : Turns (many (state l.role)) l.fn.self (many (state l.role)) l.self; declares : MayDeclare l.role l.self; no_longer : NoLonger l.fn.self l.self }
 
-abbrev pub decreases-loop-place : goal.decreases-loop-place
-decreases-loop-place l = length l.self.tokens.now
+abbrev pub decreases-loop-role : goal.decreases-loop-role
+decreases-loop-role l = length l.self.tokens.now

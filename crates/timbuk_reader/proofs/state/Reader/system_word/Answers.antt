@@ -1,25 +1,25 @@
 use Rattle.std.proofs.Common.{◌≡◌, true, refl, sym, ap, ◌∙◌, arith}
 use Rattle.timbuk_grammar.specs.declared.terminal.Terminal.TheVariants as terminal
 use Rattle.timbuk_grammar.specs.Matching.{matches}
-use Rattle.timbuk_reader.specs.Declarations.{Declared}
+use Rattle.spec_text.specs.Declarations.{Declared}
 use Rattle.timbuk_reader.specs.View.{closed}
-use Rattle.timbuk_reader.proofs.StepsTokens.{mark_stops, closed_calm}
-use Rattle.timbuk_reader.proofs.ReaderRules.{seen_first, system_stops, system_leads}
+use Rattle.timbuk_reader.proofs.parsing.Tokens.{mark_stops, closed_calm}
+use Rattle.timbuk_reader.proofs.keeping.Rules.{seen_first, system_stops, system_advances}
 use Rattle.timbuk_reader.proofs.state.Reader.system_word.Goals as goal
 
 pub returns-then-not-sees-clause-reads : goal.returns-then-not-sees-clause-reads
 returns-then-not-sees-clause-reads c =
     mark_stops terminal.Trs closed c.args.self.now c.refusal.result closed_calm (record { unseen = sym c.sees.ensures.value ∙ c.if-not-sees.true; told = c.refusal.ensures })
 
-pub returns-then-self-gt0-clause-reads : goal.returns-then-self-gt0-clause-reads
-returns-then-self-gt0-clause-reads c =
+pub returns-then-self-ge-MAX_SYSTEMS-clause-reads : goal.returns-then-self-ge-MAX_SYSTEMS-clause-reads
+returns-then-self-ge-MAX_SYSTEMS-clause-reads c =
     let r = c.args.self.now in
     let first = seen_first terminal.Trs r.tokens.now (sym c.sees.ensures.value ∙ c.if-not-sees.false) in
-    system_stops r first.0 first.1 first.2 c.refusal-then-self-gt0.result first.3 (omega arith) c.refusal-then-self-gt0.ensures
+    system_stops r first.0 first.1 first.2 c.refusal-then-self-ge-MAX_SYSTEMS.result first.3 (omega arith) c.refusal-then-self-ge-MAX_SYSTEMS.ensures
 
 pub returns-clause-reads : goal.returns-clause-reads
 returns-clause-reads c =
     let r = c.args.self.now in
     let u = c.advance.new.self in
     let seen : matches terminal.Trs c.advance.result.now ≡ true = rw c.advance.ensures.token at (sym c.sees.ensures.value ∙ c.if-not-sees.false) in
-    system_leads r c.advance.result.now u.tokens.now c.advance.ensures.token _ seen (omega arith) refl c.advance.ensures.end (ap (λ (d : Declared). record d { systems = 1 }) c.advance.ensures.state)
+    system_advances r c.advance.result.now u.tokens.now c.advance.ensures.token _ seen (omega arith) refl c.advance.ensures.end (ap (λ (d : Declared). record d { systems = 1 }) c.advance.ensures.state)

@@ -2,24 +2,25 @@ use Rattle.std.proofs.Common.{◌≡◌, ℕ, List, [], length, true, arith, sym
 use Rattle.std.proofs.lemmas.Grind.{common_steps}
 use Rattle.ranked_terms.specs.Terms.{is_symbol}
 use Rattle.timbuk_grammar.specs.Grammar.{◌then◌, name, transition}
-use Rattle.timbuk_grammar.specs.declared.terminal.Place.TheVariants as place
-use Rattle.timbuk_reader.specs.Declarations.{Declared, a_symbol, state_head, symbol_head}
+use Rattle.timbuk_grammar.specs.declared.terminal.Role.TheVariants as role
+use Rattle.spec_text.specs.Declarations.{Declared, a_symbol, state_head, symbol_head}
 use Rattle.timbuk_reader.specs.Meanings.{meant_by}
 use Rattle.timbuk_reader.specs.View.{closed}
 use Rattle.timbuk_reader.specs.Reads.{Stops, Reads}
 use Rattle.timbuk_reader.specs.Patterns.{Advanced}
 use Rattle.timbuk_reader.specs.AutomatonReads.{head_arguments, target, headed, begun}
-use Rattle.timbuk_reader.proofs.Steps.{then_stops, later_stops, then_reads}
-use Rattle.timbuk_reader.proofs.StepsAutomaton.{closed_ready, head_state_below, head_symbol_over, state_head_leads, state_head_stops, constant_leads, constant_stops, function_leads, unknown_head_stops, no_arguments}
+use Rattle.timbuk_reader.proofs.parsing.Parts.{then_stops, later_stops, then_reads}
+use Rattle.timbuk_reader.proofs.parsing.Automaton.{closed_ready}
+use Rattle.timbuk_reader.proofs.parsing.TransitionHeads.{head_state_below, head_symbol_over, state_head_advances, state_head_stops, constant_advances, constant_stops, function_advances, unknown_head_stops, no_arguments}
 use Rattle.timbuk_reader.proofs.state.Reader.transition.Goals as goal
-use Rattle.timbuk_reader.proofs.StepsArguments.{no_name_stops}
+use Rattle.timbuk_reader.proofs.parsing.Arguments.{no_name_stops}
 
 pub returns-in_err-name-clause-reads : goal.returns-in_err-name-clause-reads
 returns-in_err-name-clause-reads c =
     let r = c.args.self.now in
     let e = c.in_err-name.field-0.0 in
     let stops : Stops transition closed r e =
-    then_stops (name place.TransitionHead) (head_arguments then target) closed r e (no_name_stops place.TransitionHead r e closed (closed_ready r) c.in_err-name.ensures.err) in
+    then_stops (name role.TransitionHead) (head_arguments then target) closed r e (no_name_stops role.TransitionHead r e closed (closed_ready r) c.in_err-name.ensures.err) in
     grind (arith, common_steps)
 
 pub returns-in_err-leaf-in-State-clause-reads : goal.returns-in_err-leaf-in-State-clause-reads
@@ -29,7 +30,7 @@ returns-in_err-leaf-in-State-clause-reads c =
     let told = c.in_err-leaf-in-State.ensures in
     let means = sym c.meaning.ensures ∙ ap meant_by c.in-State.is in
     let stops : Stops transition closed r e =
-    then_stops (name place.TransitionHead) (head_arguments then target) closed r e
+    then_stops (name role.TransitionHead) (head_arguments then target) closed r e
     (state_head_stops r c.leaf.new.self c.in_ok-name.name.now c.in_ok-name.ensures.ok told.advanced c.in-State.from means e told.seen told.told) in
     grind (arith, common_steps)
 
@@ -47,8 +48,8 @@ returns-in_ok-leaf-in-State-clause-reads c =
     let o = headed (state_head q) [] in
     let told = c.in_ok-leaf-in-State.ensures in
     let means = sym c.meaning.ensures ∙ ap meant_by c.in-State.is in
-    then_reads (name place.TransitionHead) (head_arguments then target) closed o closed r m u c.epsilon_target.result
-    (state_head_leads r m c.in_ok-name.name.now c.in_ok-name.ensures.ok told.0 q means told.1)
+    then_reads (name role.TransitionHead) (head_arguments then target) closed o closed r m u c.epsilon_target.result
+    (state_head_advances r m c.in_ok-name.name.now c.in_ok-name.ensures.ok told.0 q means told.1)
     (then_reads head_arguments target o o closed m m u c.epsilon_target.result (no_arguments (state_head q) m told.1) c.epsilon_target.ensures.reads)
 
 pub returns-in_err-leaf-in-Symbol-default-eq0-clause-reads : goal.returns-in_err-leaf-in-Symbol-default-eq0-clause-reads
@@ -59,7 +60,7 @@ returns-in_err-leaf-in-Symbol-default-eq0-clause-reads c =
     let told = c.in_err-leaf-in-Symbol-default-eq0.ensures in
     let means = sym c.meaning.ensures ∙ ap meant_by c.in-Symbol-default-eq0.is ∙ ap (a_symbol f) c.in-Symbol-default-eq0.field-1-test in
     let stops : Stops transition closed r e =
-    then_stops (name place.TransitionHead) (head_arguments then target) closed r e
+    then_stops (name role.TransitionHead) (head_arguments then target) closed r e
     (constant_stops r c.leaf-in-Symbol-default-eq0.new.self c.in_ok-name.name.now c.in_ok-name.ensures.ok told.advanced f means e told.seen told.told) in
     grind (arith, common_steps)
 
@@ -82,8 +83,8 @@ returns-in_ok-leaf-in-Symbol-default-eq0-clause-reads c =
     let told = c.in_ok-leaf-in-Symbol-default-eq0.ensures in
     let means = sym c.meaning.ensures ∙ ap meant_by c.in-Symbol-default-eq0.is ∙ ap (a_symbol f) c.in-Symbol-default-eq0.field-1-test in
     let reads = subst (λ (qs : List ℕ). Reads target (headed (symbol_head f) qs) m c.transition_target.result closed u) c.new.ensures c.transition_target.ensures.reads in
-    then_reads (name place.TransitionHead) (head_arguments then target) closed o closed r m u c.transition_target.result
-    (constant_leads r m c.in_ok-name.name.now c.in_ok-name.ensures.ok told.0 f means told.1)
+    then_reads (name role.TransitionHead) (head_arguments then target) closed o closed r m u c.transition_target.result
+    (constant_advances r m c.in_ok-name.name.now c.in_ok-name.ensures.ok told.0 f means told.1)
     (then_reads head_arguments target o o closed m m u c.transition_target.result (no_arguments (symbol_head f) m told.1) reads)
 
 pub returns-in_err-args-in-Symbol-clause-reads : goal.returns-in_err-args-in-Symbol-clause-reads
@@ -96,8 +97,8 @@ returns-in_err-args-in-Symbol-clause-reads c =
     let taken : Advanced r m = record { token = c.advance.result.now; tokens = c.advance.ensures.token; state = c.advance.ensures.state; bound = c.advance.ensures.bound; end = c.advance.ensures.end } in
     let means = sym c.meaning.ensures ∙ ap meant_by c.in-Symbol.is in
     let stops : Stops transition closed r e =
-    later_stops (name place.TransitionHead) (head_arguments then target) closed (begun f n) r m e
-    (function_leads r m c.in_ok-name.name.now c.in_ok-name.ensures.ok taken f n c.in-Symbol.arity-test.1 means)
+    later_stops (name role.TransitionHead) (head_arguments then target) closed (begun f n) r m e
+    (function_advances r m c.in_ok-name.name.now c.in_ok-name.ensures.ok taken f n c.in-Symbol.arity-test.1 means)
     (then_stops head_arguments target (begun f n) m e (c.in_err-args-in-Symbol.ensures.err.by f)) in
     grind (arith, common_steps)
 
@@ -121,12 +122,12 @@ returns-in_ok-args-in-Symbol-clause-reads c =
     let args = c.in_ok-args-in-Symbol.args in
     let taken : Advanced r m = record { token = c.advance.result.now; tokens = c.advance.ensures.token; state = c.advance.ensures.state; bound = c.advance.ensures.bound; end = c.advance.ensures.end } in
     let means = sym c.meaning.ensures ∙ ap meant_by c.in-Symbol.is in
-    then_reads (name place.TransitionHead) (head_arguments then target) closed (begun f n) closed r m u c.transition_target-in-Symbol.result
-    (function_leads r m c.in_ok-name.name.now c.in_ok-name.ensures.ok taken f n c.in-Symbol.arity-test.1 means)
+    then_reads (name role.TransitionHead) (head_arguments then target) closed (begun f n) closed r m u c.transition_target-in-Symbol.result
+    (function_advances r m c.in_ok-name.name.now c.in_ok-name.ensures.ok taken f n c.in-Symbol.arity-test.1 means)
     (then_reads head_arguments target (begun f n) (headed (symbol_head f) args) closed m v u c.transition_target-in-Symbol.result (c.in_ok-args-in-Symbol.ensures.ok.by f) c.transition_target-in-Symbol.ensures.reads)
 
 pub returns-in-Variable-clause-reads : goal.returns-in-Variable-clause-reads
 returns-in-Variable-clause-reads c =
     let r = c.args.self.now in
-    then_stops (name place.TransitionHead) (head_arguments then target) closed r c.refusal.result
+    then_stops (name role.TransitionHead) (head_arguments then target) closed r c.refusal.result
     (unknown_head_stops r c.in_ok-name.name.now c.meaning.result c.refusal.result c.in_ok-name.ensures.ok c.meaning.ensures c.in-Variable.is c.refusal.ensures)

@@ -1,5 +1,5 @@
 use Rattle.std.proofs.Common.{sym, ◌∙◌}
-use Rattle.timbuk_reader.proofs.StepsAutomatonArguments.{stops_early, read_argument_by}
+use Rattle.timbuk_reader.proofs.parsing.AutomatonArguments.{stops_early, read_argument_by}
 use Rattle.timbuk_reader.proofs.state.Reader.transition_argument.Goals as goal
 
 pub returns-then-sees-clause-err : goal.returns-then-sees-clause-err

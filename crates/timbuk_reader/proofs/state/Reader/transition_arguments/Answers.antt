@@ -1,11 +1,11 @@
 use Rattle.std.proofs.Common.{◌≡◌, ℕ, ◌<◌, List, [], ◌∷◌, ◌++◌, length, length-append, true, arith, refl, sym, ap, subst, ◌∙◌}
 use Rattle.std.proofs.lemmas.Grind.{common_steps}
-use Rattle.timbuk_reader.specs.Declarations.{Declared, current}
+use Rattle.spec_text.specs.Declarations.{Declared, current}
 use Rattle.timbuk_reader.specs.Kept.{states_are_below}
 use Rattle.timbuk_reader.specs.View.{state_of}
 use Rattle.timbuk_reader.specs.AutomatonReads.{states_of, StopsArguments, SomeArguments}
-use Rattle.timbuk_reader.proofs.ReaderAutomaton.{below_push}
-use Rattle.timbuk_reader.proofs.StepsAutomatonArguments.{lacks_first, lacks_next, lacks_last, first_stops, first_leads, next_stops, next_leads, all_read}
+use Rattle.timbuk_reader.proofs.keeping.Automaton.{below_push}
+use Rattle.timbuk_reader.proofs.parsing.AutomatonArguments.{lacks_first, lacks_next, lacks_last, first_stops, first_advances, next_stops, next_advances, all_read}
 use Rattle.timbuk_reader.proofs.state.Reader.transition_arguments.Goals as goal
 
 pub returns-in_err-first_argument-clause-err : goal.returns-in_err-first_argument-clause-err
@@ -30,7 +30,7 @@ loop-self-init c =
     let took = c.in_ok-first_argument.ensures in
     let pushed : c.push.new.self ≡ q ∷ [] = c.in_ok-push.ensures.ok ∙ ap (λ (qs : List ℕ). qs ++ q ∷ []) c.new-args.ensures in
     record {
-      read = subst (λ (qs : List ℕ). SomeArguments n r qs u) (sym pushed) (first_leads n r c.first_argument.new.self u q c.requires took c.in_ok-transition_argument.ensures.ok);
+      read = subst (λ (qs : List ℕ). SomeArguments n r qs u) (sym pushed) (first_advances n r c.first_argument.new.self u q c.requires took c.in_ok-transition_argument.ensures.ok);
       room = omega (arith, ap length pushed);
       below = subst (λ (qs : List ℕ). states_are_below (length (states_of u)) qs ≡ true) (sym pushed) (below_push (length (states_of u)) [] q refl c.in_ok-transition_argument.ensures.below);
       same = c.in_ok-transition_argument.ensures.same ∙ took.state;
@@ -72,7 +72,7 @@ loop-self-preserved c =
     let same : state_of u ≡ state_of v = c.in_ok-transition_argument-2.ensures.same ∙ took.state in
     let below : states_are_below (length (states_of u)) args ≡ true = subst (λ (d : Declared). states_are_below (length (current d).states) args ≡ true) (sym same) c.loop-self.invariant.below in
     record {
-      read = subst (λ (qs : List ℕ). SomeArguments n r qs u) (sym pushed) (next_leads n r v c.next_argument.new.self u args q c.loop-self.invariant.read less took c.in_ok-transition_argument-2.ensures.ok);
+      read = subst (λ (qs : List ℕ). SomeArguments n r qs u) (sym pushed) (next_advances n r v c.next_argument.new.self u args q c.loop-self.invariant.read less took c.in_ok-transition_argument-2.ensures.ok);
       room = omega (arith, ap length pushed, length-append args (q ∷ []));
       below = subst (λ (qs : List ℕ). states_are_below (length (states_of u)) qs ≡ true) (sym pushed) (below_push (length (states_of u)) args q below c.in_ok-transition_argument-2.ensures.below);
       same = same ∙ c.loop-self.invariant.same;

@@ -1,7 +1,7 @@
 use Rattle.std.proofs.Common.{All, Contains, ap, sym, subst, ◌∙◌}
 use Rattle.ta_core.specs.TreeAutomaton.{TreeAutomaton, IsTransOf, IsEpsOf}
 use Rattle.timbuk_reader.specs.View.{started}
-use Rattle.timbuk_reader.proofs.ReaderSpec.{states_numbered, trans_numbered, moves_numbered, is_automaton_of}
+use Rattle.timbuk_reader.proofs.keeping.Automata.{states_numbered, trans_numbered, moves_numbered, is_automaton_of}
 use Rattle.timbuk_reader.proofs.state.StartedAutomaton.into_automaton.Goals as goal
 
 pub set_all_final-requires : goal.set_all_final-requires

@@ -1,7 +1,7 @@
 use Rattle.std.proofs.Common.{ltb, leb, rules, drop}
 use Rattle.std.proofs.lemmas.List.{take_rest}
 use Rattle.std.proofs.lemmas.List.Sorted.{IsPartitionPoint-from_clause, IsPartitionedBy-ltb, IsPartitionedBy-leb, IsNonDecreasingBy-drop}
-use Rattle.ta_core.proofs.Lookups.{part_of_key}
+use Rattle.list_laws.proofs.Lookups.{part_of_key}
 use Rattle.top_call.specs.Slots.{slot_cmp}
 use Rattle.top_call.specs.declared.missing.uses.Use.{Use}
 use Rattle.top_call.proofs.UseLists.{standing, standings_ascend, at_standing, is_less, is_at_most}

@@ -1,7 +1,7 @@
 use Rattle.std.proofs.Common.{ltb, leb, rules, drop}
 use Rattle.std.proofs.lemmas.List.{take_rest}
 use Rattle.std.proofs.lemmas.List.Sorted.{IsPartitionPoint-from_clause, IsPartitionedBy-ltb, IsPartitionedBy-leb, IsNonDecreasingBy-drop}
-use Rattle.ta_core.proofs.Lookups.{part_of_key}
+use Rattle.list_laws.proofs.Lookups.{part_of_key}
 use Rattle.top_call.specs.declared.missing.uses.Use.{Use}
 use Rattle.top_call.proofs.UseLists.{states_ascend}
 use Rattle.top_call.proofs.missing.uses.Uses.of_state.Goals as goal

@@ -1,0 +1,4 @@
+pub mod agreement
+pub mod existence
+pub mod faults
+pub mod uniqueness

@@ -1,0 +1,4 @@
+-- Rules and equations.
+pub mod Equations
+pub mod Rules
+pub mod Sides

@@ -1,0 +1,3 @@
+-- The first fault of a text.
+pub mod Apart
+pub mod First

@@ -1,0 +1,5 @@
+use Rattle.spec_text.proofs.faults.Apart.{one_first_fault}
+use Rattle.spec_text.proofs.laws.no_text_has_two_first_faults.Goals as goal
+
+pub returns : goal.returns
+returns c = one_first_fault

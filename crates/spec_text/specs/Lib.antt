@@ -1,0 +1,11 @@
+pub mod Limits
+pub mod Declarations
+pub mod Rows
+pub mod Source
+pub mod Naming
+pub mod SpecText
+pub mod Faults
+pub mod Reading
+pub mod Spelled
+pub mod Laws
+pub mod lemmas
