@@ -1,12 +1,12 @@
 //! The top call.
-ghost use Rattle.std.specs.Prelude.{◌≡◌, ◌≢◌, ◌↔◌, ℕ, List, ◌≤◌, ◌∷◌, ◌++◌, Some};
+ghost use Rattle.std.specs.Prelude.{◌≡◌, ◌≢◌, ◌↔◌, ℕ, ◌+◌, List, ◌≤◌, ◌∷◌, ◌++◌, Some};
 ghost use Rattle.std.specs.Prelude.{IsTrue, IfOk, OnErr, codes, length, map, string_bytes};
 ghost use Rattle.tim_io.specs.Causes.{Rose};
 ghost use Rattle.tim_io.specs.Shelves.{OthersStay};
 ghost use Rattle.tim_io.specs.Whole.{TookAtMost};
 ghost use Rattle.ta_core.specs.TreeAutomaton.{IsSound};
 ghost use Rattle.top_call.specs.Words.{file_of};
-ghost use Rattle.top_call.specs.Output.{SettlesItself, line, Decides, Judges, Says, Ran, Answers};
+ghost use Rattle.top_call.specs.Output.{SettlesItself, limit, line, Decides, Judges, Says, Ran, Answers};
 
 use crate::closure::is_closed;
 use crate::fault_line::fault_line;
@@ -63,7 +63,7 @@ fn verdict(alloc: Global, spec: &Spec) -> Result<(Status, String), AllocError>
 /// What is said of the bytes of a file: the verdict on the specification that they spell, or their first fault. The only
 /// error is running out of memory.
 fn judge(alloc: Global, bytes: &[u8]) -> Result<(Status, String), AllocError>
-    requires { length bytes.now ≤ 1048576 }
+    requires { length bytes.now ≤ limit }
     ensures { IfOk result (λ a. Judges bytes.now (string_bytes a.1) a.0) }
 {
     // For the proof: a closed automaton accepts what is reached, and where it is accepted no such term is forbidden.
@@ -97,7 +97,7 @@ fn answer<F: Shelf>(
     ensures says { IfOk result (λ a.
         Says name.now (F.left shelf.old name.now) (F.left shelf.new name.now)
         (Rose (F.faults shelf.old name.now) (F.faults shelf.new name.now)) (string_bytes a.1) a.0) }
-    ensures took { OnErr result (TookAtMost 1048577 (F.left shelf.old name.now) (F.left shelf.new name.now)) }
+    ensures took { OnErr result (TookAtMost (limit + 1) (F.left shelf.old name.now) (F.left shelf.new name.now)) }
     ensures others { OthersStay (F.left shelf.old) (F.left shelf.new) name.now }
     ensures other_faults { OthersStay (F.faults shelf.old) (F.faults shelf.new) name.now }
 {
@@ -110,7 +110,8 @@ fn answer<F: Shelf>(
     judge(alloc, bytes.as_slice())
 }
 
-/// Does what the words say, over the files of the shelf, and writes what there is to say to the sink.
+/// Does what the words say, over the files of the shelf, and writes what there is to say to the sink. The words are those
+/// after the program's name.
 ///
 /// The words are exactly `complete FILE`. `Unreachable` comes exactly where the file is a specification whose initial
 /// automaton is closed under its rules and accepts no forbidden term, and then no term that is reachable, in whatever
