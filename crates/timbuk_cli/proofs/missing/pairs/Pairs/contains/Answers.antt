@@ -1,5 +1,0 @@
-use Rattle.timbuk_cli.proofs.MarkedPairs.{is_marked}
-use Rattle.timbuk_cli.proofs.missing.pairs.Pairs.contains.Goals as goal
-
-pub returns : goal.returns
-returns c = rw (← c.self.view_is) (is_marked c.self.inside.marked.keys c.args.pair c.contains.result c.contains.ensures)

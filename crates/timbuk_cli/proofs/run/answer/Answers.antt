@@ -1,6 +1,0 @@
-use Rattle.std.proofs.Common.{rules}
-use Rattle.timbuk_cli.proofs.Verdicts.{said_of}
-use Rattle.timbuk_cli.proofs.run.answer.Goals as goal
-
-pub returns-clause-says : goal.returns-clause-says
-returns-clause-says g c = said_of c.args.name.now _ _ c.in-Ok.bytes c.judge.result (search rules) (search rules) (search rules)

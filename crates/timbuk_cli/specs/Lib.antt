@@ -1,9 +1,0 @@
-pub mod Words
-pub mod FaultText
-pub mod Output
-pub mod Codes
-pub mod Closing
-pub mod Meeting
-pub mod Slots
-pub mod Uses
-pub mod Products

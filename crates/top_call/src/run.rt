@@ -1,0 +1,159 @@
+//! The top call.
+ghost use Rattle.std.specs.Prelude.{◌≡◌, ◌≢◌, ◌↔◌, ℕ, ◌+◌, List, ◌≤◌, ◌∷◌, ◌++◌, Some};
+ghost use Rattle.std.specs.Prelude.{IsTrue, IfOk, OnErr, codes, length, map, string_bytes};
+ghost use Rattle.tim_io.specs.Causes.{Rose};
+ghost use Rattle.tim_io.specs.Shelves.{OthersStay};
+ghost use Rattle.tim_io.specs.Whole.{TookAtMost};
+ghost use Rattle.ta_core.specs.TreeAutomaton.{IsSound};
+ghost use Rattle.top_call.specs.Words.{file_of};
+ghost use Rattle.top_call.specs.Output.{SettlesItself, limit, line, Decides, Judges, Says, Ran, Answers};
+
+use crate::closure::is_closed;
+use crate::fault_line::fault_line;
+use crate::missing::have_no_common_term;
+use crate::status::Status;
+use crate::words::file_word;
+use std::alloc::{AllocError, Global};
+use ta_core::Spec;
+use ta_core::laws::{
+    accepted_automata_are_safe, accepted_terms_are_over, closed_automata_accept_what_is_reached,
+    contained_automata_keep_runs,
+};
+use tim_io::{ReadError, Shelf, Sink, read_all, write_all};
+use timbuk_reader::{SpecError, no_text_has_two_specs, read_spec};
+
+/// The largest number of bytes of a specification.
+const MAX_SPEC: usize = 1048576;
+
+/// The line for words that are no command line.
+const USAGE: &str =
+    "usage: timbuk complete FILE [OPTIONS] | check SPEC CERT | ta OP FILE [--limit N] | browse SPEC SCRIPT | sample N\n";
+
+/// Whether the initial automaton settles the question as it stands: it has no term in common with the forbidden automaton,
+/// which is looked at first, since it takes less time, and it is closed under the rules. The only error is running out of memory.
+fn settles_itself(alloc: Global, spec: &Spec) -> Result<bool, AllocError>
+    ensures { IfOk result (λ yes. IsTrue yes ↔ SettlesItself spec.now) }
+{
+    // For the proof: what the initial automaton accepts is over the signature, and it contains itself.
+    accepted_terms_are_over();
+    contained_automata_keep_runs();
+    if !have_no_common_term(alloc, &spec.initial, &spec.forbidden)? {
+        return Ok(false);
+    }
+    is_closed(alloc, &spec.initial, spec.rules.as_slice())
+}
+
+/// The verdict on a specification, with its line: `Unreachable` exactly where its initial automaton is closed under its
+/// rules and accepts no forbidden term, and else `Undecided`. The only error is running out of memory.
+fn verdict(alloc: Global, spec: &Spec) -> Result<(Status, String), AllocError>
+    ensures exact { IfOk result (λ a. Decides spec.now (string_bytes a.1) a.0) }
+    ensures sound { IsSound spec.now.initial }
+{
+    // For the proof: its contract says what holds of every automaton.
+    let _ = spec.initial.states();
+    if settles_itself(alloc, spec)? {
+        let line = String::from_str(alloc, "Verdict unreachable\n")?;
+        Ok((Status::Unreachable, line))
+    } else {
+        let line = String::from_str(alloc, "Verdict undecided\n")?;
+        Ok((Status::Undecided, line))
+    }
+}
+
+/// What is said of the bytes of a file: the verdict on the specification that they spell, or their first fault. The only
+/// error is running out of memory.
+fn judge(alloc: Global, bytes: &[u8]) -> Result<(Status, String), AllocError>
+    requires { length bytes.now ≤ limit }
+    ensures { IfOk result (λ a. Judges bytes.now (string_bytes a.1) a.0) }
+{
+    // For the proof: a closed automaton accepts what is reached, and where it is accepted no such term is forbidden.
+    closed_automata_accept_what_is_reached();
+    accepted_automata_are_safe();
+    match read_spec(alloc, bytes) {
+        Ok(spec) => verdict(alloc, &spec),
+        Err(SpecError::Fault(fault)) => Ok((Status::BadSpec, fault_line(alloc, fault)?)),
+        Err(SpecError::Memory) => Err(AllocError),
+    }
+}
+
+/// A refusal of a file, by its status and its line. The only error is running out of memory.
+fn refusal(
+    alloc: Global,
+    status: Status,
+    what: &str,
+    name: &str,
+) -> Result<(Status, String), AllocError>
+    ensures { IfOk result (λ a. (a.0 ≡ status) × (string_bytes a.1 ≡ line (what.now ++ 32 ∷ name.now))) }
+{
+    Ok((status, format!(in alloc; "{what} {name}\n")?))
+}
+
+/// What is said of a file: a status and its text. The only error is running out of memory.
+fn answer<F: Shelf>(
+    alloc: Global,
+    name: &str,
+    shelf: &mut F,
+) -> Result<(Status, String), AllocError>
+    ensures says { IfOk result (λ a.
+        Says name.now (F.left shelf.old name.now) (F.left shelf.new name.now)
+        (Rose (F.faults shelf.old name.now) (F.faults shelf.new name.now)) (string_bytes a.1) a.0) }
+    ensures took { OnErr result (TookAtMost (limit + 1) (F.left shelf.old name.now) (F.left shelf.new name.now)) }
+    ensures others { OthersStay (F.left shelf.old) (F.left shelf.new) name.now }
+    ensures other_faults { OthersStay (F.faults shelf.old) (F.faults shelf.new) name.now }
+{
+    let bytes = match read_all(alloc, shelf, name, MAX_SPEC) {
+        Ok(bytes) => bytes,
+        Err(ReadError::Fault) => return refusal(alloc, Status::ReadFault, "Cannot read", name),
+        Err(ReadError::TooLong) => return refusal(alloc, Status::TooLong, "Too long", name),
+        Err(ReadError::Memory) => return Err(AllocError),
+    };
+    judge(alloc, bytes.as_slice())
+}
+
+/// Does what the words say, over the files of the shelf, and writes what there is to say to the sink. The words are those
+/// after the program's name.
+///
+/// The words are exactly `complete FILE`. `Unreachable` comes exactly where the file is a specification whose initial
+/// automaton is closed under its rules and accepts no forbidden term, and then no term that is reachable, in whatever
+/// number of steps, is forbidden. `Undecided` comes exactly where the file is any other specification. `BadWords` comes
+/// exactly where the words are no command line, `TooLong` exactly where the file has more than 1,048,576 bytes, `BadSpec`
+/// exactly where its bytes are no specification, `ReadFault` only where the shelf failed at the file, `WriteFault` only
+/// where the sink failed, and `Memory` where memory ran out once the words were understood.
+///
+/// One line is written: `Verdict unreachable`, `Verdict undecided`, how the program is called, `Too long NAME`,
+/// `Bad specification line L column C: KIND` with the place and the kind of the first fault of the text, or `Cannot read NAME`.
+/// At `WriteFault` a part of such a line was written from its front, and at `Memory` nothing is.
+///
+/// Nothing is left of a file on which the answer rests; of one that is too long, one byte more than the limit was taken.
+pub fn run<F: Shelf, K: Sink>(alloc: Global, words: &[String], shelf: &mut F, out: &mut K) -> Status
+    ensures ran { Ran (map string_bytes words.now) (F.left shelf.old) (F.left shelf.new)
+        (λ name. Rose (F.faults shelf.old name) (F.faults shelf.new name))
+        (Rose (K.faults out.old) (K.faults out.new))
+        (K.written out.old) (K.written out.new) result }
+
+    // Where no count rose, the words and the contents of the file name the answer.
+    ensures complete { ((name : List ℕ) → file_of (map string_bytes words.now) ≡ Some name →
+        ¬ Rose (F.faults shelf.old name) (F.faults shelf.new name))
+        → ¬ Rose (K.faults out.old) (K.faults out.new)
+        → Answers (map string_bytes words.now) (F.left shelf.old) result }
+
+    // What the shelf reports of names that are no file word stays.
+    ensures others { (name : List ℕ) → file_of (map string_bytes words.now) ≢ Some name →
+        (F.left shelf.new name ≡ F.left shelf.old name) × (F.faults shelf.new name ≡ F.faults shelf.old name) }
+{
+    // For the proof: the bytes of a file name one answer.
+    no_text_has_two_specs();
+    let Some(name) = file_word(words) else {
+        return match write_all(out, USAGE.as_bytes()) {
+            Ok(()) => Status::BadWords,
+            Err(_) => Status::WriteFault,
+        };
+    };
+    let Ok((status, text)) = answer(alloc, name, shelf) else {
+        return Status::Memory;
+    };
+    match write_all(out, text.as_bytes()) {
+        Ok(()) => status,
+        Err(_) => Status::WriteFault,
+    }
+}
