@@ -1,10 +1,9 @@
 -- The first place of a number in a list, and what stands there in another one.
 use Rattle.std.proofs.Common.{◌≡◌, ℕ, suc, ◌+◌, ◌<◌, Bool, true, false, not, cond, ◌==◌, List, [], ◌∷◌, map, length, slice_index, Contains, refl, sym, ap, ◌∙◌, ⊎_elim, arith, ◌≤◌, Option, Some, None}
 use Rattle.std.specs.List.{position_or_len}
-use Rattle.std.proofs.lemmas.Bool.{eqb-true, eqb-false}
+use Rattle.std.proofs.lemmas.Bool.{eqb-true, eqb-false, ltb-false}
 use Rattle.std.specs.Option.{unwrap_or}
 use Rattle.std.proofs.Math.Dec.{ltb}
-use Rattle.std.proofs.lemmas.Bool.{ltb-false}
 use Rattle.std.proofs.lemmas.List.Sums.{prefix_len-le-length}
 use Rattle.list_laws.proofs.Members.{none, parts}
 

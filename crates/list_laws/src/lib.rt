@@ -2,8 +2,11 @@
 //! the crates above take for their proofs. Nothing here runs.
 #![tactic(auto)]
 
-ghost use Rattle.list_laws.specs.ListingLaws.{ListingsAreOne, FrontsBeginListings, LongFrontsAreMore, MoreMakeLonger, FirstsAreFronts};
-ghost use Rattle.list_laws.specs.ListLaws.{InsertionsAdd, InsertionsAscend, PartsAscend, DecidedAreListed, EndsStay, SearchesFind, PlacesStay, PartsDiffer, FitsAreLong, InsertionsGrow, NeitherPasses};
+ghost use Rattle.list_laws.specs.ListingLaws.{ListingsAreOne, FrontsBeginListings, LongFrontsAreMore, MoreMakeLonger};
+ghost use Rattle.list_laws.specs.ListingLaws.{FirstsAreFronts};
+ghost use Rattle.list_laws.specs.ListLaws.{InsertionsAdd, InsertionsAscend, PartsAscend, DecidedAreListed, EndsStay};
+ghost use Rattle.list_laws.specs.ListLaws.{SearchesFind, PlacesStay, PartsDiffer, FitsAreLong, InsertionsGrow};
+ghost use Rattle.list_laws.specs.ListLaws.{NeitherPasses};
 
 use std::marker::Brand;
 

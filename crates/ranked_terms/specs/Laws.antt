@@ -5,6 +5,7 @@ use Rattle.ranked_terms.specs.Names.{Symbol}
 use Rattle.ranked_terms.specs.Terms.{node, size_of, height_of, instance_of, assigned, is_over, pattern_is_over, config_of, occurrences, firsts, variables_of}
 use Rattle.ranked_terms.specs.declared.term.Term.{Term}
 use Rattle.ranked_terms.specs.declared.term.Pattern.{Pattern}
+use Rattle.ranked_terms.specs.contracts.term.TermPartialEq.TheImpl.{ghosts}
 
 -- the size of a term is one more than the sum of its arguments' sizes
 abbrev pub SizesAddUp : Type 0
@@ -41,3 +42,7 @@ VariablesOnce = (p : Pattern) → IsDistinct nat_eq (variables_of p) × ((v : �
 -- and they stand in order of first occurrence: the first, and then the others of the rest
 abbrev pub FirstsInOrder : Type 0
 FirstsInOrder = (v : ℕ) (vs : List ℕ) → firsts (v ∷ vs) ≡ v ∷ filter (λ w. not (v == w)) (firsts vs)
+
+-- what `==` of two terms answers (`ghosts.eq`) is whether they are equal
+abbrev pub EqualTermsAreSame : Type 0
+EqualTermsAreSame = (t u : Term) → IsTrue (ghosts.eq t u) ↔ (t ≡ u)

@@ -1,3 +1,4 @@
 pub mod TermLaws
 pub mod InstanceLaws
 pub mod VariableLaws
+pub mod EqLaws

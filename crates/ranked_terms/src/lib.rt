@@ -10,8 +10,6 @@ mod position;
 mod seq;
 mod signature;
 mod term;
-#[cfg(test)]
-mod tests;
 
 pub use name::Name;
 pub use position::Position;

@@ -22,7 +22,7 @@ impl Model for Name {
 }
 
 impl Name {
-    /// The name of these bytes. The only error is want of memory.
+    /// The name of these bytes. The only error is running out of memory.
     pub fn from_slice(alloc: Global, items: &[u8]) -> Result<Name, AllocError>
         ensures { IfOk result (λ name. name ≡ items.now) }
     {

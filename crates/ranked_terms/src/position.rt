@@ -23,7 +23,7 @@ impl Model for Position {
 }
 
 impl Position {
-    /// The position of these argument numbers. The only error is want of memory.
+    /// The position of these argument numbers. The only error is running out of memory.
     pub fn from_slice(alloc: Global, items: &[u32]) -> Result<Position, AllocError>
         ensures { IfOk result (λ position. position ≡ items.now) }
     {

@@ -72,7 +72,7 @@ impl<T> Seq<T> {
 }
 
 impl<T: Copy> Seq<T> {
-    /// The sequence of the elements of a slice. The only error is want of memory.
+    /// The sequence of the elements of a slice. The only error is running out of memory.
     pub fn from_slice(alloc: Global, items: &[T]) -> Result<Seq<T>, AllocError>
         ensures { IfOk result (λ sequence. sequence ≡ items.now) }
     {
@@ -82,7 +82,7 @@ impl<T: Copy> Seq<T> {
 }
 
 impl<T: Drop> Seq<T> {
-    /// Appends an element. At want of memory the element is dropped, and the sequence stays as it was.
+    /// Appends an element. When memory runs out the element is dropped, and the sequence stays as it was.
     pub fn push(&mut self, item: T) -> Result<(), AllocError>
         ensures ok { OnOk result (self.new ≡ self.old ++ item ∷ []) }
         ensures err { OnErr result (self.new ≡ self.old) }

@@ -103,7 +103,7 @@ impl Signature {
         Ok(number)
     }
 
-    /// An equal signature. The only error is want of memory.
+    /// An equal signature. The only error is running out of memory.
     pub fn copy(&self) -> Result<Signature, AllocError>
         ensures { IfOk result (λ copy. copy ≡ self.now) }
     {

@@ -14,7 +14,7 @@ pub struct Term {
 }
 
 impl Term {
-    /// An equal term. The only error is want of memory.
+    /// An equal term. The only error is running out of memory.
     pub fn copy(&self, alloc: Global) -> Result<Term, AllocError>
         ensures { IfOk result (λ copy. copy ≡ self.now) }
     {
@@ -39,7 +39,7 @@ pub enum Pattern {
 }
 
 impl Pattern {
-    /// An equal pattern. The only error is want of memory.
+    /// An equal pattern. The only error is running out of memory.
     pub fn copy(&self, alloc: Global) -> Result<Pattern, AllocError>
         ensures { IfOk result (λ copy. copy ≡ self.now) }
     {
@@ -77,7 +77,7 @@ pub enum Shape {
 }
 
 impl Shape {
-    /// An equal shape. The only error is want of memory.
+    /// An equal shape. The only error is running out of memory.
     pub fn copy(&self, alloc: Global) -> Result<Shape, AllocError>
         ensures { IfOk result (λ copy. copy ≡ self.now) }
     {

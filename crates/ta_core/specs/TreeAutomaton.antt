@@ -45,10 +45,14 @@ pub record IsEpsOf (states : List ℕ) (e : ℕ × ℕ) : Type 0 where
   pub to : Contains states e.1
   pub moves : e.0 ≢ e.1
 
--- each state is below `next`, which is at most 16,384, and each state that is named is in the list of states
+-- each state is below `next`, and each state that is named is in the list of states
 pub record IsSound (A : TreeAutomaton) : Type 0 where
-  pub few : A.next ≤ 16384
   pub below : All (λ q. q < A.next) A.states
   pub finals : All (Contains A.states) A.finals
   pub trans : All (IsTransOf A.states) A.trans
   pub eps : All (IsEpsOf A.states) A.eps
+
+-- an automaton as its type keeps it: `next` is at most 16,384 besides
+pub record IsKept (A : TreeAutomaton) : Type 0 where
+  pub sound : IsSound A
+  pub few : A.next ≤ 16384

@@ -3,3 +3,4 @@ pub mod RunsLaws
 pub mod RunStates
 pub mod ReachedSets
 pub mod Assignments
+pub mod PlainRuns

@@ -29,7 +29,7 @@ impl Model for Args {
 }
 
 impl Args {
-    /// The list of these states. The only error is want of memory.
+    /// The list of these states. The only error is running out of memory.
     pub fn from_slice(alloc: Global, items: &[u32]) -> Result<Args, AllocError>
         ensures { IfOk result (λ args. args ≡ items.now) }
     {

@@ -1,5 +1,6 @@
 //! Tree automata and the calls that build and read them.
-ghost use Rattle.std.specs.Prelude.{◌≡◌, ◌≢◌, ◌<◌, ◌≤◌, ◌+◌, ◌⊎◌, ◌↔◌, ℕ, [], ◌∷◌, ◌++◌, All, Contains, IsTrue, false, IfOk, OnOk, OnErr, IsErrOf};
+ghost use Rattle.std.specs.Prelude.{◌≡◌, ◌≢◌, ◌<◌, ◌≤◌, ◌+◌, ◌⊎◌, ◌↔◌, ℕ, [], ◌∷◌, ◌++◌, All, Contains, IsTrue, false};
+ghost use Rattle.std.specs.Prelude.{IfOk, OnOk, OnErr, IsErrOf};
 ghost use Rattle.std.specs.Ordering.{nat_cmp};
 ghost use Rattle.std.specs.List.Sorted.{IsStrictlySortedBy};
 ghost use Rattle.std.specs.BTreeSet.{insert_key};
@@ -52,13 +53,14 @@ pub struct Automaton {
 }
 
 impl Model for Automaton {
-    ghost use Rattle.ta_core.specs.TreeAutomaton.{TreeAutomaton, IsSound};
+    ghost use Rattle.ta_core.specs.TreeAutomaton.{TreeAutomaton, IsKept};
 
     ghost Value = { TreeAutomaton };
 
     ghost view = { λ a. record { states = a.states; next = a.next; finals = a.finals; trans = a.trans; eps = a.eps } };
 
-    ghost invariant = { λ a. IsSound (record { states = a.states; next = a.next; finals = a.finals; trans = a.trans; eps = a.eps }) };
+    ghost invariant = { λ a. IsKept
+        (record { states = a.states; next = a.next; finals = a.finals; trans = a.trans; eps = a.eps }) };
 }
 
 impl Automaton {
@@ -77,7 +79,7 @@ impl Automaton {
     }
 
     /// The automaton of these states and this `next` alone, with no final state and no transition. The only error is
-    /// want of memory.
+    /// running out of memory.
     pub fn with_states(alloc: Global, next: u32, states: &[u32]) -> Result<Automaton, AllocError>
         requires few { next ≤ 16384 }
         requires ascend { IsStrictlySortedBy nat_cmp states.now }
@@ -95,7 +97,7 @@ impl Automaton {
         })
     }
 
-    /// An equal automaton. The only error is want of memory.
+    /// An equal automaton. The only error is running out of memory.
     pub fn copy(&self) -> Result<Automaton, AllocError>
         ensures { IfOk result (λ copy. copy ≡ self.now) }
     {
@@ -109,7 +111,7 @@ impl Automaton {
         })
     }
 
-    /// The same automaton without its epsilon transitions. The only error is want of memory.
+    /// The same automaton without its epsilon transitions. The only error is running out of memory.
     pub fn without_eps(&self) -> Result<Automaton, AllocError>
         ensures { IfOk result (λ plain. plain ≡ record self.now { eps = [] }) }
     {
@@ -140,6 +142,7 @@ impl Automaton {
     /// The number that the next state gets, above all states.
     pub fn next(&self) -> u32
         ensures value { result ≡ self.now.next }
+        ensures few { self.now.next ≤ 16384 }
         ensures sound { IsSound self.now }
     {
         self.next
@@ -166,6 +169,7 @@ impl Automaton {
     /// The epsilon transitions `p -> q` as pairs, in ascending order.
     pub fn eps(&self) -> &[(u32, u32)]
         ensures value { result.now ≡ self.now.eps }
+        ensures few { self.now.next ≤ 16384 }
         ensures sorted { IsStrictlySortedBy pair_cmp self.now.eps }
         ensures sound { IsSound self.now }
     {
@@ -176,7 +180,8 @@ impl Automaton {
     /// `MAX_STATES`. After an error the automaton is as before.
     pub fn add_state(&mut self) -> Result<u32, StateError>
         ensures number { IfOk result (λ q. q ≡ self.old.next) }
-        ensures ok { OnOk result (self.new ≡ record self.old { states = self.old.states ++ self.old.next ∷ []; next = self.old.next + 1 }) }
+        ensures ok { OnOk result (self.new ≡
+            record self.old { states = self.old.states ++ self.old.next ∷ []; next = self.old.next + 1 }) }
         ensures full { IsErrOf result StateError.Full ↔ (self.old.next ≡ 16384) }
         ensures err { OnErr result (self.new ≡ self.old) }
     {
@@ -189,12 +194,13 @@ impl Automaton {
         Ok(state)
     }
 
-    /// Adds the transition `sym(args) -> to`, and says whether it was new. At want of memory the automaton is as before.
+    /// Adds the transition `sym(args) -> to`, and says whether it was new. When memory runs out the automaton is as before.
     pub fn add_trans(&mut self, sym: u32, args: &[u32], to: u32) -> Result<bool, AllocError>
         requires args { All (Contains self.old.states) args.now }
         requires to { Contains self.old.states to }
         ensures new { IfOk result (λ new. IsTrue new ↔ ¬ Contains self.old.trans (trans_of sym args.now to)) }
-        ensures ok { OnOk result (self.new ≡ record self.old { trans = insert_key trans_cmp self.old.trans (trans_of sym args.now to) }) }
+        ensures ok { OnOk result (self.new ≡
+            record self.old { trans = insert_key trans_cmp self.old.trans (trans_of sym args.now to) }) }
         ensures members { OnOk result (IsUnion self.old.trans (trans_of sym args.now to ∷ []) self.new.trans) }
         ensures err { OnErr result (self.new ≡ self.old) }
     {
@@ -203,7 +209,7 @@ impl Automaton {
     }
 
     /// Adds the epsilon transition `from -> to`, and says whether it was new. One from a state to itself is never added,
-    /// and the answer is then false. At want of memory the automaton is as before.
+    /// and the answer is then false. When memory runs out the automaton is as before.
     pub fn add_eps(&mut self, from: u32, to: u32) -> Result<bool, AllocError>
         requires from { Contains self.old.states from }
         requires to { Contains self.old.states to }
@@ -219,7 +225,7 @@ impl Automaton {
         self.eps.insert((from, to))
     }
 
-    /// Makes a state final, and says whether it was not. At want of memory the automaton is as before.
+    /// Makes a state final, and says whether it was not. When memory runs out the automaton is as before.
     pub fn set_final(&mut self, q: u32) -> Result<bool, AllocError>
         requires { Contains self.old.states q }
         ensures new { IfOk result (λ new. IsTrue new ↔ ¬ Contains self.old.finals q) }
@@ -230,7 +236,7 @@ impl Automaton {
         self.finals.insert(q)
     }
 
-    /// Adds many transitions, in any order and as often as they stand there, by one sort of all. At want of memory the
+    /// Adds many transitions, in any order and as often as they stand there, by one sort of all. When memory runs out the
     /// automaton is as before.
     pub fn add_all_trans(&mut self, more: Seq<Trans>) -> Result<(), AllocError>
         requires { All (IsTransOf self.old.states) more }
@@ -243,7 +249,7 @@ impl Automaton {
     }
 
     /// Adds many epsilon transitions from a state to another one, in any order and as often as they stand there, by one sort
-    /// of all. At want of memory the automaton is as before.
+    /// of all. When memory runs out the automaton is as before.
     pub fn add_all_eps(&mut self, more: Seq<(u32, u32)>) -> Result<(), AllocError>
         requires { All (IsEpsOf self.old.states) more }
         ensures members { OnOk result (IsUnion self.old.eps more self.new.eps) }
@@ -254,7 +260,7 @@ impl Automaton {
         self.eps.add_all(more.into_vec())
     }
 
-    /// Makes many states final, in any order and as often as they stand there, by one sort of all. At want of memory the
+    /// Makes many states final, in any order and as often as they stand there, by one sort of all. When memory runs out the
     /// automaton is as before.
     pub fn set_all_final(&mut self, more: Seq<u32>) -> Result<(), AllocError>
         requires { All (Contains self.old.states) more }

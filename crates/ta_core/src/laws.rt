@@ -1,7 +1,14 @@
 //! Laws of runs. Each function does nothing: its contract is the law.
-ghost use Rattle.ta_core.specs.AcceptanceLaws.{ContainedKeepsRuns, ContainedKeepsAccepted, ContainsItself, AcceptedTermsAreOver, AcceptedIsSafe};
-ghost use Rattle.ta_core.specs.ClosureLaws.{InstancesFactor, InstancesCompose, ClosedKeepsRuns, ClosedAcceptsReached, ClosedByLists, ClosedHasNoOpenPair, OpenPairsAreOne, TriplesAreAll, TriplesAscend, TriplesAreDecided, OpenPairsAreListed, OpenPairsAreOpenTriples, OpenPairsAreListing, FirstOpenIsHead, ClosedOrFirstOpen, FrontsBeginOpenPairs, MoreOpenAreLonger};
-ghost use Rattle.ta_core.specs.Laws.{RunsAreClosed, HasEachRun, PlainRunsAreRuns, PlainRunsUseNoEpsilon, RunsAreMonotone, RunsEndInStates, RunsAreListed, PlainRunsAreListed, RunsAreDecided, PlainRunsAreDecided, LanguagesAreDecided};
+ghost use Rattle.ta_core.specs.AcceptanceLaws.{ContainedKeepsRuns, ContainedKeepsAccepted, ContainsItself};
+ghost use Rattle.ta_core.specs.AcceptanceLaws.{AcceptedTermsAreOver, AcceptedIsSafe};
+ghost use Rattle.ta_core.specs.ClosureLaws.{InstancesFactor, InstancesCompose, ClosedKeepsRuns, ClosedAcceptsReached};
+ghost use Rattle.ta_core.specs.ClosureLaws.{ClosedByLists, ClosedHasNoOpenPair, OpenPairsAreOne, TriplesAreAll};
+ghost use Rattle.ta_core.specs.ClosureLaws.{TriplesAscend, TriplesAreDecided, OpenPairsAreListed, OpenPairsAreOpenTriples};
+ghost use Rattle.ta_core.specs.ClosureLaws.{OpenPairsAreListing, FirstOpenIsHead, ClosedOrFirstOpen, FrontsBeginOpenPairs};
+ghost use Rattle.ta_core.specs.ClosureLaws.{MoreOpenAreLonger};
+ghost use Rattle.ta_core.specs.Laws.{RunsAreClosed, HasEachRun, PlainRunsAreRuns, PlainRunsUseNoEpsilon, RunsAreMonotone};
+ghost use Rattle.ta_core.specs.Laws.{RunsEndInStates, RunsAreListed, PlainRunsAreListed, RunsAreDecided};
+ghost use Rattle.ta_core.specs.Laws.{PlainRunsAreDecided, LanguagesAreDecided};
 
 use std::marker::Brand;
 

@@ -11,7 +11,6 @@ pub mod laws;
 mod lookup;
 mod map;
 mod options;
-mod plain_runs;
 mod reached;
 mod runs;
 mod safety;
@@ -29,6 +28,3 @@ pub use safety::accepted_means_safe;
 pub use spec::Spec;
 pub use state_set::StateSet;
 pub use trans::Trans;
-
-#[cfg(test)]
-mod tests;

@@ -1,5 +1,5 @@
 //! The transitions of a symbol and the epsilon transitions of a state, found by binary search.
-ghost use Rattle.std.specs.Prelude.{◌≡◌, ◌↔◌, ℕ, List, ◌++◌, Contains};
+ghost use Rattle.std.specs.Prelude.{◌≡◌, ◌≤◌, ◌↔◌, ℕ, List, ◌++◌, Contains};
 ghost use Rattle.ta_core.specs.TreeAutomaton.{IsSound};
 ghost use Rattle.ta_core.specs.Orders.{rank_of};
 ghost use Rattle.ta_core.specs.declared.trans.Trans.{Trans as Transition};
@@ -23,7 +23,8 @@ impl Automaton {
 
     /// The transitions of the symbol whose arguments begin with these states, by arguments and target.
     pub fn trans_from(&self, sym: u32, prefix: &[u32]) -> &[Trans]
-        ensures members { (t : Transition) → Contains result.now t ↔ (Contains self.now.trans t × (t.sym ≡ sym) × ((rest : List ℕ) × (t.args ≡ prefix.now ++ rest))) }
+        ensures members { (t : Transition) → Contains result.now t ↔
+            (Contains self.now.trans t × (t.sym ≡ sym) × ((rest : List ℕ) × (t.args ≡ prefix.now ++ rest))) }
         ensures sound { IsSound self.now }
     {
         let all = self.trans();
@@ -37,6 +38,7 @@ impl Automaton {
     pub fn eps_from(&self, state: u32) -> &[(u32, u32)]
         ensures members { (e : ℕ × ℕ) → Contains result.now e ↔ (Contains self.now.eps e × (e.0 ≡ state)) }
         ensures sound { IsSound self.now }
+        ensures few { self.now.next ≤ 16384 }
     {
         let all = self.eps();
         let start = all.partition_point(|pair| pair.0 < state);

@@ -22,7 +22,7 @@ impl Model for Map {
 }
 
 impl Map {
-    /// The map that has these states at the places 0, 1 and so on. The only error is want of memory.
+    /// The map that has these states at the places 0, 1 and so on. The only error is running out of memory.
     pub fn from_slice(alloc: Global, items: &[u32]) -> Result<Map, AllocError>
         ensures { IfOk result (λ map. map ≡ items.now) }
     {
@@ -37,7 +37,7 @@ impl Map {
         self.states.as_slice()
     }
 
-    /// An equal map. The only error is want of memory.
+    /// An equal map. The only error is running out of memory.
     pub fn copy(&self, alloc: Global) -> Result<Map, AllocError>
         ensures { IfOk result (λ copy. copy ≡ self.now) }
     {

@@ -25,7 +25,8 @@ pub struct Options {
 }
 
 impl Default for Options {
-    ghost is_default = { λ o. (o.rounds ≡ 20) × (o.steps ≡ 5) × (o.height ≡ 4) × (o.terms ≡ 5000) × (o.pairs ≡ 100000) × (o.states ≡ 4096) };
+    ghost is_default = { λ o. (o.rounds ≡ 20) × (o.steps ≡ 5) × (o.height ≡ 4) × (o.terms ≡ 5000) × (o.pairs ≡ 100000)
+        × (o.states ≡ 4096) };
 
     /// 20 rounds, 5 steps, height 4, 5,000 terms, 100,000 pairs and 4,096 states.
     fn default() -> Options {

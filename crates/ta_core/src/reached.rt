@@ -54,7 +54,7 @@ impl Reached {
         self.states.contains(&state)
     }
 
-    /// Adds the state as the last, unless it is a member. At want of memory, the only error, the set stays as it was.
+    /// Adds the state as the last, unless it is a member. When memory runs out, the only error, the set stays as it was.
     pub(crate) fn add(&mut self, state: u32) -> Result<(), AllocError>
         ensures ok { OnOk result (self.new ≡ insert_key ◌==◌ self.old state) }
         ensures err { OnErr result (self.new ≡ self.old) }
@@ -65,7 +65,8 @@ impl Reached {
 
     // Adds the state to which each of the epsilon transitions leads, after those that are there.
     fn add_targets(&mut self, eps: &[(u32, u32)]) -> Result<(), AllocError>
-        ensures members { OnOk result ((q : ℕ) → Contains self.new q ↔ (Contains self.old q ⊎ ((p : ℕ) × Contains eps.now (p, q)))) }
+        ensures members { OnOk result ((q : ℕ) → Contains self.new q ↔
+            (Contains self.old q ⊎ ((p : ℕ) × Contains eps.now (p, q)))) }
         ensures kept { OnOk result ((rest : List ℕ) × (self.new ≡ self.old ++ rest)) }
     {
         for (_, to) in eps {
@@ -85,7 +86,7 @@ impl Reached {
     }
 
     /// The set of whatever the epsilon transitions lead to from its members, in any number of steps. Each state is taken
-    /// once. The only error is want of memory.
+    /// once. The only error is running out of memory.
     pub(crate) fn closed(mut self, automaton: &Automaton) -> Result<Reached, AllocError>
         requires { All (Contains automaton.now.states) self }
         ensures { IfOk result (λ all. (q : ℕ) → Contains all q ↔ ReachedFrom automaton.now self q) }
@@ -98,7 +99,7 @@ impl Reached {
         Ok(self)
     }
 
-    /// The same set in ascending order, by one sort. The only error is want of memory.
+    /// The same set in ascending order, by one sort. The only error is running out of memory.
     pub(crate) fn to_set(&self) -> Result<StateSet, AllocError>
         ensures { IfOk result (λ all. (q : ℕ) → Contains all q ↔ Contains self.now q) }
     {

@@ -1,9 +1,9 @@
 //! Runs: the states to which configurations and terms run.
-ghost use Rattle.std.specs.Prelude.{◌↔◌, ℕ, IsTrue, All, Contains, IfOk};
+ghost use Rattle.std.specs.Prelude.{◌≡◌, ◌↔◌, ℕ, IsTrue, All, Contains, IfOk};
 ghost use Rattle.std.specs.List.{AllZip};
 ghost use Rattle.ranked_terms.specs.Terms.{config_of};
 ghost use Rattle.ranked_terms.specs.declared.term.Config.{State};
-ghost use Rattle.ta_core.specs.Runs.{Runs};
+ghost use Rattle.ta_core.specs.Runs.{Runs, RunsPlain};
 ghost use Rattle.ta_core.specs.Languages.{Accepts};
 ghost use Rattle.ta_core.specs.Reached.{ReachedFrom, HasTransInto, EntersAndReaches};
 
@@ -14,7 +14,7 @@ use ranked_terms::{Config, Term};
 use std::alloc::AllocError;
 
 impl Automaton {
-    /// The states to which the configuration runs (TATA, section 1.1). The only error is want of memory.
+    /// The states to which the configuration runs (TATA, section 1.1). The only error is running out of memory.
     pub fn run_states(&self, config: &Config) -> Result<StateSet, AllocError>
         ensures { IfOk result (λ all. (q : ℕ) → Contains all q ↔ Runs self.now config.now q) }
     {
@@ -22,7 +22,16 @@ impl Automaton {
         reached.to_set()
     }
 
-    /// Whether the ground term runs to a final state. The only error is want of memory.
+    /// The states to which the configuration runs without epsilon transitions (TATA, section 1.1). The only error is running
+    /// out of memory.
+    pub fn plain_states(&self, config: &Config) -> Result<StateSet, AllocError>
+        ensures { IfOk result (λ all. (q : ℕ) → Contains all q ↔ RunsPlain self.now config.now q) }
+    {
+        let reached = self.reached_plainly(config)?;
+        reached.to_set()
+    }
+
+    /// Whether the ground term runs to a final state. The only error is running out of memory.
     pub fn accepts(&self, term: &Term) -> Result<bool, AllocError>
         ensures { IfOk result (λ yes. IsTrue yes ↔ Accepts self.now term.now) }
     {
@@ -31,7 +40,7 @@ impl Automaton {
     }
 
     /// The states to which the state runs: itself and, in any number of steps, where epsilon transitions lead; none
-    /// where it is no state of the automaton. The only error is want of memory.
+    /// where it is no state of the automaton. The only error is running out of memory.
     pub fn eps_closure(&self, state: u32) -> Result<StateSet, AllocError>
         ensures { IfOk result (λ all. (q : ℕ) → Contains all q ↔ Runs self.now (State state) q) }
     {
@@ -40,7 +49,7 @@ impl Automaton {
     }
 
     /// The states to which epsilon transitions lead from the members of the set, in any number of steps. The only error is
-    /// want of memory.
+    /// running out of memory.
     pub fn closure_of(&self, set: &StateSet) -> Result<StateSet, AllocError>
         requires { All (Contains self.now.states) set.now }
         ensures { IfOk result (λ all. (q : ℕ) → Contains all q ↔ ReachedFrom self.now set.now q) }
@@ -67,7 +76,34 @@ impl Automaton {
         }
     }
 
-    // The same of a ground term.
+    // The states to which the configuration runs without epsilon transitions.
+    fn reached_plainly(&self, config: &Config) -> Result<Reached, AllocError>
+        ensures { IfOk result (λ all. (q : ℕ) → Contains all q ↔ RunsPlain self.now config.now q) }
+    {
+        match config {
+            Config::State(state) => self.state_alone(*state),
+            Config::App(sym, args) => {
+                let mut sets = Vec::new(self.alloc());
+                for arg in args.as_slice() {
+                    sets.push(self.reached_plainly(arg)?)?;
+                }
+                self.targets_of(*sym, &sets)
+            }
+        }
+    }
+
+    // The state by itself, and none where it is no state of the automaton.
+    fn state_alone(&self, state: u32) -> Result<Reached, AllocError>
+        ensures { IfOk result (λ all. (q : ℕ) → Contains all q ↔ ((state ≡ q) × Contains self.now.states q)) }
+    {
+        let mut reached = Reached::new(self.alloc());
+        if self.has_state(state) {
+            reached.add(state)?;
+        }
+        Ok(reached)
+    }
+
+    // The states to which the ground term runs.
     fn reached_by_term(&self, term: &Term) -> Result<Reached, AllocError>
         ensures { IfOk result (λ all. (q : ℕ) → Contains all q ↔ Runs self.now (config_of term.now) q) }
     {

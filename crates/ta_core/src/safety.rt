@@ -15,6 +15,7 @@ pub fn accepted_means_safe(spec: &Spec, automaton: &Automaton, map: &Map)
     requires accepted { IsAccepted spec.now automaton.now map.now }
     ensures { (t : Term) → Reachable spec.now t → Forbidden spec.now t → ⊥ }
 {
+    // For the proof: the contracts of these calls say that the rules are rules, and that the automaton is sound.
     each_is_rule(spec.rules.as_slice());
     let _ = automaton.next();
 }

@@ -49,7 +49,7 @@ impl<T: Ord> Sorted<T> {
 }
 
 impl<T: Ord + Drop> Sorted<T> {
-    /// Adds a member at its place, and says whether it was new. At want of memory the set stays as it was.
+    /// Adds a member at its place, and says whether it was new. When memory runs out the set stays as it was.
     pub fn insert(&mut self, item: T) -> Result<bool, AllocError>
         ensures new { IfOk result (λ new. new ≡ not (has T.cmp self.old item)) }
         ensures ok { OnOk result (self.new ≡ insert_key T.cmp self.old item) }
@@ -64,7 +64,7 @@ impl<T: Ord + Drop> Sorted<T> {
         }
     }
 
-    /// Adds many members, in any order and as often as they stand there, by one sort of all. At want of memory the set
+    /// Adds many members, in any order and as often as they stand there, by one sort of all. When memory runs out the set
     /// stays as it was.
     pub fn add_all(&mut self, mut more: Vec<T>) -> Result<(), AllocError>
         requires { (x y : T) → T.cmp x y ≡ Equal → x ≡ y }
@@ -80,7 +80,7 @@ impl<T: Ord + Drop> Sorted<T> {
 }
 
 impl<T: Ord + Copy> Sorted<T> {
-    /// The set of the members of a list that ascends strictly. The only error is want of memory.
+    /// The set of the members of a list that ascends strictly. The only error is running out of memory.
     pub fn from_slice(alloc: Global, items: &[T]) -> Result<Sorted<T>, AllocError>
         requires { IsStrictlySortedBy T.cmp items.now }
         ensures { IfOk result (λ set. set ≡ items.now) }
@@ -91,7 +91,7 @@ impl<T: Ord + Copy> Sorted<T> {
 }
 
 impl<T: Ord + Clone + Drop> Sorted<T> {
-    /// An equal set. The only error is want of memory.
+    /// An equal set. The only error is running out of memory.
     pub fn copy(&self, alloc: Global) -> Result<Sorted<T>, AllocError>
         requires { (x y : T) → T.is_clone x y → y ≡ x }
         ensures { IfOk result (λ copy. copy ≡ self.now) }

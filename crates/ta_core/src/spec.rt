@@ -1,7 +1,8 @@
 //! Specifications.
 ghost use Rattle.std.specs.Prelude.{◌≡◌, ◌+◌, ◌≤◌, [], false, IsTrue};
 ghost use Rattle.std.specs.List.{range_with_len};
-ghost use Rattle.ta_core.specs.SpecRules.{rules_are_over, equations_are_over, entries_are_over, entries_are_below, entries_are_small, automaton_is_over};
+ghost use Rattle.ta_core.specs.SpecRules.{rules_are_over, equations_are_over, entries_are_over, entries_are_below};
+ghost use Rattle.ta_core.specs.SpecRules.{entries_are_small, automaton_is_over};
 
 use crate::automaton::Automaton;
 use ranked_terms::{Name, Seq, Signature};

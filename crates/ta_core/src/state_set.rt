@@ -22,7 +22,7 @@ impl Model for StateSet {
 }
 
 impl StateSet {
-    /// The set of these states, which ascend without doubles. The only error is want of memory.
+    /// The set of these states, which ascend without doubles. The only error is running out of memory.
     pub fn from_slice(alloc: Global, items: &[u32]) -> Result<StateSet, AllocError>
         requires { IsStrictlySortedBy nat_cmp items.now }
         ensures { IfOk result (λ set. set ≡ items.now) }
@@ -31,7 +31,7 @@ impl StateSet {
         Ok(StateSet { states })
     }
 
-    /// The set of these states, in any order and as often as they stand there. The only error is want of memory.
+    /// The set of these states, in any order and as often as they stand there. The only error is running out of memory.
     pub fn from_states(alloc: Global, items: Vec<u32>) -> Result<StateSet, AllocError>
         ensures { IfOk result (λ set. (q : ℕ) → Contains set q ↔ Contains items.items q) }
     {

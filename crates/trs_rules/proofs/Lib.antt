@@ -3,3 +3,4 @@ pub mod OverLaws
 pub mod VariableLaws
 pub mod RepeatLaws
 pub mod RuleLaws
+pub mod CountedLaws

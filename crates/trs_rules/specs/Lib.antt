@@ -2,4 +2,5 @@ pub mod Rules
 pub mod Variables
 pub mod Steps
 pub mod Laws
+pub mod Counted
 pub mod lemmas

@@ -27,7 +27,8 @@ impl Model for Equation {
 
     ghost view = { λ equation. record { left = equation.left; right = equation.right; vars = equation.variables } };
 
-    ghost invariant = { λ equation. IsEquation (record { left = equation.left; right = equation.right; vars = equation.variables }) };
+    ghost invariant = { λ equation. IsEquation
+        (record { left = equation.left; right = equation.right; vars = equation.variables }) };
 }
 
 impl Equation {

@@ -1,5 +1,8 @@
 //! Laws of steps and chains, each as the contract of a function that does nothing.
-ghost use Rattle.trs_rules.specs.Laws.{PlacedStepsAreSteps, StepsArePlaced, ChainsAreTheirSteps, ChainsAppend, LeadsToItself, StepsLead, LeadsAreTransitive, MoreRulesKeepSteps, StepsStayOver, ChainsStayOver};
+ghost use Rattle.trs_rules.specs.Counted.{NoStepStays, StepsComeFirst, StepsComeLast, CountsAddUp, WithinIsInSome, LeadsIsInSome};
+ghost use Rattle.trs_rules.specs.Laws.{PlacedStepsAreSteps, StepsArePlaced, ChainsAreTheirSteps, ChainsAppend};
+ghost use Rattle.trs_rules.specs.Laws.{LeadsToItself, StepsLead, LeadsAreTransitive, MoreRulesKeepSteps, StepsStayOver};
+ghost use Rattle.trs_rules.specs.Laws.{ChainsStayOver};
 
 /// A step at a position is a step.
 pub fn placed_steps_are_steps()
@@ -26,6 +29,18 @@ pub fn leads_is_a_preorder()
     ensures itself { LeadsToItself }
     ensures step { StepsLead }
     ensures transitive { LeadsAreTransitive }
+{}
+
+/// Chains by their number of steps. None leads from a term to itself alone; one more leads by a first step and then by the
+/// others, and by the others and then by a last step; the numbers of two chains add up. Within so many steps is in some
+/// number of them, and whatever a chain leads to it leads to in some number.
+pub fn chains_are_counted()
+    ensures none { NoStepStays }
+    ensures first { StepsComeFirst }
+    ensures last { StepsComeLast }
+    ensures sum { CountsAddUp }
+    ensures within { WithinIsInSome }
+    ensures some { LeadsIsInSome }
 {}
 
 /// Steps are kept where more rules follow.

@@ -11,8 +11,6 @@ pub mod laws;
 mod occurrences;
 mod rule;
 mod sigma;
-#[cfg(test)]
-mod tests;
 mod variables;
 
 pub use entry::Entry;

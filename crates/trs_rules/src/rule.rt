@@ -59,10 +59,12 @@ impl Rule {
         ensures rule { IfOk result IsRule }
 
         ensures variable_left { (result ≡ Err RuleFault.VariableLeft) ↔ IsVariable left }
-        ensures not_left_linear { (var : ℕ) → (result ≡ Err (RuleFault.NotLeftLinear var)) ↔ (first_repeat (occurrences left) ≡ Some var) }
+        ensures not_left_linear { (var : ℕ) → (result ≡ Err (RuleFault.NotLeftLinear var)) ↔
+            (first_repeat (occurrences left) ≡ Some var) }
         ensures free_variable { (var : ℕ) → (result ≡ Err (RuleFault.FreeVariable var)) ↔ ((IsVariable left → ⊥) × IsLinear left
             × (first_free (occurrences left) (occurrences right) ≡ Some var)) }
-        ensures too_many_variables { (result ≡ Err RuleFault.TooManyVariables) ↔ ((IsVariable left → ⊥) × IsLinear left × IsBound left right
+        ensures too_many_variables { (result ≡ Err RuleFault.TooManyVariables) ↔
+            ((IsVariable left → ⊥) × IsLinear left × IsBound left right
             × (16 < length (variables_of left))) }
     {
         if let Pattern::Var(_) = left {
@@ -109,11 +111,12 @@ impl Rule {
     }
 }
 
-/// Each member of a slice of rules is a rule.
+/// Each member of a slice of rules is a rule, which their types keep. It reads each rule once, and takes no memory.
 pub fn each_is_rule(rules: &[Rule])
     ensures { All IsRule rules.now }
 {
     for rule in rules {
+        // For the proof: the contract of a call of it says that the rule is one.
         let _ = rule.vars();
     }
 }

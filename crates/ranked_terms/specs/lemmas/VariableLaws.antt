@@ -4,7 +4,7 @@ use Rattle.std.proofs.Common.{◌≡◌, ℕ, Bool, true, false, not, nat_eq, �
 use Rattle.std.specs.List.{IsDistinct, AllByRecursion, list_any}
 use Rattle.std.proofs.lemmas.Bool.{eqb-true, eq-eqb}
 use Rattle.std.proofs.lemmas.List.Elements.{Contains-append_left, Contains-append_right, Contains-append_cases, Contains-push, Contains-push_cases, filter-append}
-use Rattle.indexmap.proofs.CallerLemmas.{Contains-list_any}
+use Rattle.std.proofs.lemmas.Map.Views.{Contains-from_any}
 use Rattle.list_laws.proofs.Members.{none}
 use Rattle.list_laws.proofs.Tests.{neither}
 use Rattle.ranked_terms.specs.Terms.{with_variable, firsts, occurrences, variables_of}
@@ -71,7 +71,7 @@ kept vs [] v h = h
 kept vs (x ∷ xs) v h = kept (with_variable vs x) xs v (kept_by vs x v (list_any (λ w. x == w) vs) h)
 
 taken_by : (vs : List ℕ) (x : ℕ) (b : Bool) → list_any (λ w. x == w) vs ≡ b → Contains (if b then vs else (vs ++ x ∷ [])) x
-taken_by vs x true e = Contains-list_any nat_eq eqb-true vs x e
+taken_by vs x true e = Contains-from_any {eq = nat_eq} eqb-true x vs e
 taken_by vs x false e = Contains-push vs x
 
 only_one : (x v : ℕ) → Contains (x ∷ []) v → x ≡ v

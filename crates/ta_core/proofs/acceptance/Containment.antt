@@ -11,8 +11,7 @@ use Rattle.ta_core.specs.TreeAutomaton.{TreeAutomaton, IsSound, IsTransOf, IsEps
 use Rattle.ta_core.specs.Runs.{Runs, RunsAll, Reaches}
 use Rattle.ta_core.specs.Acceptance.{IsContained, StateHolds, TransHolds, EpsHolds, FinalHolds, image}
 use Rattle.ta_core.specs.AcceptanceLaws.{ContainedKeepsRuns, ContainedKeepsAccepted, ContainsItself}
-use Rattle.list_laws.proofs.Members.{all_from_members}
-use Rattle.list_laws.proofs.Members.{here, there}
+use Rattle.list_laws.proofs.Members.{all_from_members, here, there}
 use Rattle.ta_core.specs.lemmas.RunsLaws.{run_of_app, run_of_state, reached, all_from_zip, zip_from_all}
 
 -- ---- runs

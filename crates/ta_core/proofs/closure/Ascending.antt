@@ -10,10 +10,9 @@ use Rattle.trs_rules.specs.Rules.{RewriteRule}
 use Rattle.trs_rules.specs.declared.sigma.Pair.{Pair}
 use Rattle.list_laws.proofs.Ascending.{ascends-append, ascends-map, ascends-flat_map, first_decides, second_decides}
 use Rattle.ta_core.specs.TreeAutomaton.{TreeAutomaton}
-use Rattle.ta_core.specs.Closure.{assignments, triples_of_rule, triples_from}
+use Rattle.ta_core.specs.Closure.{assignments, triples_of_rule, triples_from, pair_of}
 use Rattle.ta_core.specs.ClosureLaws.{pair_order, TriplesAscend}
 use Rattle.list_laws.proofs.Members.{map_had, flat_map_had}
-use Rattle.ta_core.specs.Closure.{pair_of}
 use Rattle.ta_core.proofs.closure.OpenPairs.{from_had}
 use Rattle.list_laws.proofs.Places.{nothing_ascends}
 

@@ -15,8 +15,7 @@ use Rattle.ta_core.specs.Closure.{Closed, IsTriple, IsOpen, IsOpenTriple, IsSett
 use Rattle.ta_core.specs.ClosureLaws.{pair_order, TriplesAreDecided, OpenPairsAreListed, OpenPairsAreOpenTriples, OpenPairsAreListing, FirstOpenIsHead, ClosedOrFirstOpen, FrontsBeginOpenPairs, MoreOpenAreLonger}
 use Rattle.ta_core.proofs.closure.Ascending.{triples_ascend}
 use Rattle.ta_core.proofs.Decided.{runs_are_decided}
-use Rattle.list_laws.proofs.Members.{all_from_members}
-use Rattle.list_laws.proofs.Members.{here, there, none, parts}
+use Rattle.list_laws.proofs.Members.{all_from_members, here, there, none, parts}
 use Rattle.ta_core.proofs.closure.OpenPairs.{not_both, triples_are_all, closed_has_no_open_pair}
 
 pub pair_order_total : IsTotalOrder pair_order

@@ -4,15 +4,12 @@ use Rattle.std.proofs.lemmas.List.Elements.{All-nil, All-cons, All-head, All-tai
 use Rattle.std.proofs.lemmas.Option.{slice_get-get_or}
 use Rattle.trs_rules.specs.Rules.{RewriteRule, IsRule}
 use Rattle.trs_rules.specs.declared.sigma.Pair.{Pair}
-use Rattle.list_laws.proofs.Members.{map_has, map_had, flat_map_has, flat_map_had}
-use Rattle.ta_core.specs.Closure.{pair_of}
+use Rattle.list_laws.proofs.Members.{map_has, map_had, flat_map_has, flat_map_had, at_place, here, there, none, parts}
+use Rattle.ta_core.specs.Closure.{pair_of, IsClosedUnder, Closed, IsTriple, IsOpen, IsSettled, OpenAmong, AreOpenPairs, assigned_by, assignments, triples_of_rule, triples_from}
 use Rattle.ta_core.specs.TreeAutomaton.{TreeAutomaton, IsSound}
 use Rattle.ta_core.specs.Runs.{Runs}
-use Rattle.ta_core.specs.Closure.{IsClosedUnder, Closed, IsTriple, IsOpen, IsSettled, OpenAmong, AreOpenPairs, assigned_by, assignments, triples_of_rule, triples_from}
 use Rattle.ta_core.specs.ClosureLaws.{ClosedHasNoOpenPair, OpenPairsAreOne, TriplesAreAll}
-use Rattle.list_laws.proofs.Members.{at_place}
 use Rattle.ta_core.specs.lemmas.Assignments.{closed_at_list, closed_from_lists}
-use Rattle.list_laws.proofs.Members.{here, there, none, parts}
 use Rattle.ta_core.specs.lemmas.RunsLaws.{run_ends}
 
 -- ---- assignments

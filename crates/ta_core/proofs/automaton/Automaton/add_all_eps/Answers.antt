@@ -14,10 +14,12 @@ invariant_of-self c =
     let states = ap (λ (A : TreeAutomaton). A.states) c.self.view_is in
     record {
       few = c.self.invariant.few;
-      below = c.self.invariant.below;
-      finals = c.self.invariant.finals;
-      trans = c.self.invariant.trans;
-      eps = all_after (IsEpsOf i.states) i.eps c.into_vec.result.items c.add_all.new.self c.add_all.result e.members e.err c.self.invariant.eps (rw (states, c.into_vec.ensures) c.requires);
+      sound = record {
+        below = c.self.invariant.sound.below;
+        finals = c.self.invariant.sound.finals;
+        trans = c.self.invariant.sound.trans;
+        eps = all_after (IsEpsOf i.states) i.eps c.into_vec.result.items c.add_all.new.self c.add_all.result e.members e.err c.self.invariant.sound.eps (rw (states, c.into_vec.ensures) c.requires);
+      };
     }
 
 pub returns-clause-members : goal.returns-clause-members

@@ -14,10 +14,12 @@ invariant_of-self c =
     let states = ap (λ (A : TreeAutomaton). A.states) c.self.view_is in
     record {
       few = c.self.invariant.few;
-      below = c.self.invariant.below;
-      finals = c.self.invariant.finals;
-      trans = all_after (IsTransOf i.states) i.trans c.into_vec.result.items c.add_all.new.self c.add_all.result e.members e.err c.self.invariant.trans (rw (states, c.into_vec.ensures) c.requires);
-      eps = c.self.invariant.eps;
+      sound = record {
+        below = c.self.invariant.sound.below;
+        finals = c.self.invariant.sound.finals;
+        trans = all_after (IsTransOf i.states) i.trans c.into_vec.result.items c.add_all.new.self c.add_all.result e.members e.err c.self.invariant.sound.trans (rw (states, c.into_vec.ensures) c.requires);
+        eps = c.self.invariant.sound.eps;
+      };
     }
 
 pub returns-clause-members : goal.returns-clause-members

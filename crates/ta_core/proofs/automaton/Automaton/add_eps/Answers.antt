@@ -14,10 +14,12 @@ invariant_of-self c =
     let sound : IsEpsOf i.states pair = record { from = rw states c.requires.from; to = rw states c.requires.to; moves = λ same. omega (arith, c.if-from-to.false) } in
     record {
       few = c.self.invariant.few;
-      below = c.self.invariant.below;
-      finals = c.self.invariant.finals;
-      trans = c.self.invariant.trans;
-      eps = all_after (IsEpsOf i.states) i.eps (pair ∷ []) c.insert.new.self c.insert.result (union_after pair_total pair_exact i.eps c.insert.new.self pair c.insert.result e.ok) e.err c.self.invariant.eps (all_one (IsEpsOf i.states) pair sound);
+      sound = record {
+        below = c.self.invariant.sound.below;
+        finals = c.self.invariant.sound.finals;
+        trans = c.self.invariant.sound.trans;
+        eps = all_after (IsEpsOf i.states) i.eps (pair ∷ []) c.insert.new.self c.insert.result (union_after pair_total pair_exact i.eps c.insert.new.self pair c.insert.result e.ok) e.err c.self.invariant.sound.eps (all_one (IsEpsOf i.states) pair sound);
+      };
     }
 
 pub returns-clause-new : goal.returns-clause-new

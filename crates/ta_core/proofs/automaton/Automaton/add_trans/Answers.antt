@@ -14,10 +14,12 @@ invariant_of-self c =
     let sound : IsTransOf i.states t = record { args = rw (states, c.in_ok-args.ensures) c.requires.args; to = rw states c.requires.to } in
     record {
       few = c.self.invariant.few;
-      below = c.self.invariant.below;
-      finals = c.self.invariant.finals;
-      trans = all_after (IsTransOf i.states) i.trans (t ∷ []) c.insert.new.self c.insert.result (union_after trans_total trans_exact i.trans c.insert.new.self t c.insert.result e.ok) e.err c.self.invariant.trans (all_one (IsTransOf i.states) t sound);
-      eps = c.self.invariant.eps;
+      sound = record {
+        below = c.self.invariant.sound.below;
+        finals = c.self.invariant.sound.finals;
+        trans = all_after (IsTransOf i.states) i.trans (t ∷ []) c.insert.new.self c.insert.result (union_after trans_total trans_exact i.trans c.insert.new.self t c.insert.result e.ok) e.err c.self.invariant.sound.trans (all_one (IsTransOf i.states) t sound);
+        eps = c.self.invariant.sound.eps;
+      };
     }
 
 pub returns-clause-new : goal.returns-clause-new

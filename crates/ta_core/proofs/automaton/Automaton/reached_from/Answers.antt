@@ -4,8 +4,7 @@ use Rattle.indexmap.specs.IndexSet.{insert_key}
 use Rattle.ranked_terms.specs.declared.term.Config.{State}
 use Rattle.ta_core.specs.Reached.{ReachedFrom}
 use Rattle.ta_core.specs.Runs.{Runs}
-use Rattle.list_laws.proofs.Members.{all_one}
-use Rattle.list_laws.proofs.Members.{none}
+use Rattle.list_laws.proofs.Members.{all_one, none}
 use Rattle.ta_core.specs.lemmas.RunsLaws.{run_of_state}
 use Rattle.ta_core.specs.lemmas.RunStates.{exact_by, runs_of_state, one_state}
 use Rattle.ta_core.proofs.automaton.Automaton.reached_from.Goals as goal

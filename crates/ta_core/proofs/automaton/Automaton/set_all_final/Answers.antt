@@ -11,10 +11,12 @@ invariant_of-self c =
     let states = ap (λ (A : TreeAutomaton). A.states) c.self.view_is in
     record {
       few = c.self.invariant.few;
-      below = c.self.invariant.below;
-      finals = all_after (Contains i.states) i.finals c.into_vec.result.items c.add_all.new.self c.add_all.result e.members e.err c.self.invariant.finals (rw (states, c.into_vec.ensures) c.requires);
-      trans = c.self.invariant.trans;
-      eps = c.self.invariant.eps;
+      sound = record {
+        below = c.self.invariant.sound.below;
+        finals = all_after (Contains i.states) i.finals c.into_vec.result.items c.add_all.new.self c.add_all.result e.members e.err c.self.invariant.sound.finals (rw (states, c.into_vec.ensures) c.requires);
+        trans = c.self.invariant.sound.trans;
+        eps = c.self.invariant.sound.eps;
+      };
     }
 
 pub returns-clause-members : goal.returns-clause-members

@@ -14,10 +14,12 @@ invariant_of-self c =
     let states = ap (λ (A : TreeAutomaton). A.states) c.self.view_is in
     record {
       few = c.self.invariant.few;
-      below = c.self.invariant.below;
-      finals = all_after (Contains i.states) i.finals (c.args.q ∷ []) c.insert.new.self c.insert.result (union_after nat_cmp_total exact_unsigned i.finals c.insert.new.self c.args.q c.insert.result e.ok) e.err c.self.invariant.finals (all_one (Contains i.states) c.args.q (rw states c.requires));
-      trans = c.self.invariant.trans;
-      eps = c.self.invariant.eps;
+      sound = record {
+        below = c.self.invariant.sound.below;
+        finals = all_after (Contains i.states) i.finals (c.args.q ∷ []) c.insert.new.self c.insert.result (union_after nat_cmp_total exact_unsigned i.finals c.insert.new.self c.args.q c.insert.result e.ok) e.err c.self.invariant.sound.finals (all_one (Contains i.states) c.args.q (rw states c.requires));
+        trans = c.self.invariant.sound.trans;
+        eps = c.self.invariant.sound.eps;
+      };
     }
 
 pub returns-clause-new : goal.returns-clause-new

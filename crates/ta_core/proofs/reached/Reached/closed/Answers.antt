@@ -16,7 +16,7 @@ at_below c =
     omega (arith, end, few_states A c.args.self set c.loop-state.at c.loop-state.invariant c.eps_from.ensures.sound c.get.ensures.distinct)
 
 pub overflow_add-at : goal.overflow_add-at
-overflow_add-at c = omega (arith, at_below c, c.eps_from.ensures.sound.few)
+overflow_add-at c = omega (arith, at_below c, c.eps_from.ensures.few)
 
 pub loop-state-smaller : goal.loop-state-smaller
 loop-state-smaller c = omega (arith, at_below c)

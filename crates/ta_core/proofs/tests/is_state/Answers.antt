@@ -1,5 +1,0 @@
-use Rattle.list_laws.proofs.Members.{found}
-use Rattle.ta_core.proofs.tests.is_state.Goals as goal
-
-pub returns : goal.returns
-returns c t = found c.args.states.now c.args.number c.contains.result c.contains.ensures.value t

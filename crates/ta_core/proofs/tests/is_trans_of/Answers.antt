@@ -1,7 +1,0 @@
-use Rattle.std.proofs.Common.{subst}
-use Rattle.std.specs.List.{All, Contains}
-use Rattle.ta_core.proofs.tests.is_trans_of.Goals as goal
-
-pub returns-then-are_states : goal.returns-then-are_states
-returns-then-are_states c t =
-    record { args = subst (All (Contains c.args.states.now)) c.as_slice.ensures (c.are_states.ensures c.if-are_states.true); to = c.is_state.ensures t }

@@ -1,8 +1,0 @@
-use Rattle.std.proofs.Common.{refl}
-use Rattle.std.specs.List.Sorted.{IsStrictlySortedBy}
-use Rattle.ta_core.proofs.tests.six_states.Goals as goal
-
-pub with_states-requires-clause-ascend : goal.with_states-requires-clause-ascend
-unfolding IsStrictlySortedBy
-with_states-requires-clause-ascend c =
-    ((refl, (refl, (refl, (refl, (refl, tt))))), ((refl, (refl, (refl, (refl, tt)))), ((refl, (refl, (refl, tt))), ((refl, (refl, tt)), ((refl, tt), (tt, tt))))))

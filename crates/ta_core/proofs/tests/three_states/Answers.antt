@@ -1,7 +1,0 @@
-use Rattle.std.proofs.Common.{refl}
-use Rattle.std.specs.List.Sorted.{IsStrictlySortedBy}
-use Rattle.ta_core.proofs.tests.three_states.Goals as goal
-
-pub with_states-requires-clause-ascend : goal.with_states-requires-clause-ascend
-unfolding IsStrictlySortedBy
-with_states-requires-clause-ascend c = ((refl, (refl, tt)), ((refl, tt), (tt, tt)))
