@@ -98,6 +98,7 @@ impl<R: Files> Shelf for FileShelf<'_, R> {
         // its type tells what it has left. So a call that failed is never answered as the end.
         ensures reads { 0 < length buf.new → ReadsOn ⟦<R::File as Read>⟧.remaining
             (file_in self.old.files name.now) (file_in self.new.files name.now) result buf.new }
+        ensures empty_file { length buf.new ≡ 0 → file_in self.new.files name.now ≡ file_in self.old.files name.now }
         ensures other_files { OthersStay (file_in self.old.files) (file_in self.new.files) name.now }
         ensures fault { IsErrOf result TakeError.Failed →
             faults_in self.new.files name.now ≡ one_more (faults_in self.old.files name.now) }
