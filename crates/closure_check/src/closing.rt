@@ -135,7 +135,8 @@ fn first_apart(left: &mut Marks, right: &Marks, automaton: &Automaton) -> Option
         if !has_state(automaton, *state) {
             continue;
         }
-        if !right.contains(*state) {
+        let shared = right.contains(*state);
+        if !shared {
             return Some(*state);
         }
     }

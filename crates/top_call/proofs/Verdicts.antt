@@ -1,5 +1,5 @@
 -- What the verdicts of `run` rest on.
-use Rattle.std.proofs.Common.{◌≡◌, ◌≢◌, ℕ, ◌+◌, ◌≤◌, ◌<◌, List, [], ◌∷◌, ◌++◌, Option, Some, None, IsTrue, Bool, Result, Ok, Err, IfOk, ◌↔◌, length, append-nil, length-append, arith, sym, ap, ◌∙◌, subst, inl, refl, codes, string_bytes}
+use Rattle.std.proofs.Common.{◌≡◌, ℕ, ◌+◌, ◌≤◌, ◌<◌, List, [], ◌∷◌, ◌++◌, Option, Some, None, IsTrue, Bool, Result, Ok, Err, IfOk, ◌↔◌, length, append-nil, length-append, arith, sym, ap, ◌∙◌, subst, inl, refl, string_bytes}
 use Rattle.std.specs.List.{All, AllZip, range_with_len}
 use Rattle.std.specs.Prelude.{String}
 use Rattle.std.specs.Global.{Global}
@@ -22,7 +22,7 @@ use Rattle.spec_text.specs.Source.{RuleDeclaration}
 use Rattle.spec_text.specs.Naming.{Names}
 use Rattle.spec_text.specs.SpecText.{IsRuleFrom, SpecText}
 use Rattle.spec_text.specs.Laws.{OneSpec}
-use Rattle.top_call.specs.Output.{Text, SettlesItself, IsSafe, IsNoSpec, Decides, Judges, OfFile, Says, Answers, limit, line}
+use Rattle.top_call.specs.Output.{Text, SettlesItself, IsSafe, IsNoSpec, Decides, Judges, OfFile, Says, Answers, limit}
 use Rattle.top_call.specs.declared.status.Status.{Status}
 use Rattle.top_call.specs.declared.status.Status.TheVariants.{Unreachable, Undecided, BadWords, BadSpec, TooLong, ReadFault, WriteFault, Memory}
 
