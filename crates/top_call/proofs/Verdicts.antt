@@ -1,5 +1,5 @@
 -- What the verdicts of `run` rest on.
-use Rattle.std.proofs.Common.{◌≡◌, ℕ, ◌+◌, ◌≤◌, ◌<◌, List, [], ◌∷◌, ◌++◌, Option, Some, None, IsTrue, Bool, Result, Ok, Err, IfOk, ◌↔◌, length, append-nil, length-append, arith, sym, ap, ◌∙◌, subst, inl, refl, string_bytes}
+use Rattle.std.proofs.Common.{◌≡◌, ℕ, ◌+◌, ◌≤◌, ◌<◌, List, [], ◌∷◌, ◌++◌, Option, Some, None, Result, Ok, Err, IfOk, length, append-nil, length-append, arith, sym, ap, ◌∙◌, subst, inl, refl, string_bytes}
 use Rattle.std.specs.List.{All, AllZip, range_with_len}
 use Rattle.std.specs.Prelude.{String}
 use Rattle.std.specs.Global.{Global}
@@ -11,12 +11,9 @@ use Rattle.tim_io.specs.declared.whole.ReadError.TheVariants as error
 use Rattle.tim_io.specs.Whole.{Reads, TookAtMost, TookJust}
 use Rattle.trs_rules.specs.Rules.{RewriteRule, IsRule}
 use Rattle.ta_core.specs.TreeAutomaton.{IsSound}
-use Rattle.ta_core.specs.SpecRules.{automaton_is_over}
-use Rattle.ta_core.specs.Closure.{Closed}
-use Rattle.ta_core.specs.AcceptanceLaws.{ContainsItself, AcceptedTermsAreOver, AcceptedIsSafe}
+use Rattle.ta_core.specs.AcceptanceLaws.{AcceptedIsSafe}
 use Rattle.ta_core.specs.ClosureLaws.{ClosedAcceptsReached}
 use Rattle.ta_core.specs.declared.spec.Spec.{Spec}
-use Rattle.ta_core.specs.Meeting.{HaveNoCommonTerm}
 use Rattle.top_call.specs.Words.{file_of}
 use Rattle.spec_text.specs.Source.{RuleDeclaration}
 use Rattle.spec_text.specs.Naming.{Names}
