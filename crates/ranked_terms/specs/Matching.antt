@@ -28,7 +28,8 @@ pub record IsInstance (p : Pattern) (t : Term) (binding : List (ℕ × Term)) : 
   pub agrees : Agrees θ binding
   pub is : t ≡ instance_of θ p
 
--- the substitutions of `after` are those of `before` that make p into t, and p's variables are bound besides
+-- the substitutions of `after` are those of `before` that make p into t, and p's variables are bound besides, behind those
+-- that were bound before
 pub record IsBoundBy (p : Pattern) (t : Term) (before after : List (ℕ × Term)) : Type 0 where
   pub exactly : (θ : ℕ → Term) → Agrees θ after ↔ (Agrees θ before × (instance_of θ p ≡ t))
   pub bound : bound_in after ≡ bound_with before p

@@ -8,3 +8,4 @@ pub mod RootLaws
 pub mod PartLaws
 pub mod DerivationLaws
 pub mod SuccessorLaws
+pub mod DerivedLaws

@@ -15,12 +15,6 @@ use Rattle.trs_rules.specs.declared.derivation.Derivation.{Derivation}
 
 -- ---- steps
 
--- s is an instance of the rule's left side, and t is the same instance of its right side
-pub record IsStepBy (rule : RewriteRule) (s t : Term) : Type 0 where
-  pub θ : ℕ → Term
-  pub from : s ≡ instance_of θ rule.left
-  pub to : t ≡ instance_of θ rule.right
-
 -- by rule, and then by position as a list, where a prefix comes first
 abbrev pub successor_order : Successor → Successor → Ordering
 successor_order x y = ordering_then (nat_cmp x.rule y.rule) (slice_cmp nat_cmp x.at y.at)
@@ -30,7 +24,14 @@ pub record AreSuccessors (R : List RewriteRule) (t : Term) (list : List Successo
   pub members : (s : Successor) → Contains list s ↔ StepAt R s.rule s.at t s.term
   pub sorted : IsStrictlySortedBy successor_order list
 
--- ---- for private contracts: the steps that are found once so many rules, and so many positions for the next one, are tried
+-- ---- for private contracts: a step at the root by a rule itself, which `RootStep` names by its number; the steps that are found
+-- once so many rules, and so many positions for the next one, are tried
+
+-- s is an instance of the rule's left side, and t is the same instance of its right side
+pub record IsStepBy (rule : RewriteRule) (s t : Term) : Type 0 where
+  pub θ : ℕ → Term
+  pub from : s ≡ instance_of θ rule.left
+  pub to : t ≡ instance_of θ rule.right
 
 abbrev pub IsTried : ℕ → List (List ℕ) → Successor → Type 0
 IsTried rules positions s = (s.rule < rules) ⊎ ((s.rule ≡ rules) × Contains positions s.at)

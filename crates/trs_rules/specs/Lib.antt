@@ -5,3 +5,4 @@ pub mod Laws
 pub mod Counted
 pub mod lemmas
 pub mod Derivations
+pub mod DerivationLaws

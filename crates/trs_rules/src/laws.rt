@@ -1,5 +1,6 @@
 //! Laws of steps and chains, each as the contract of a function that does nothing.
 ghost use Rattle.trs_rules.specs.Counted.{NoStepStays, StepsComeFirst, StepsComeLast, CountsAddUp, WithinIsInSome, LeadsIsInSome};
+ghost use Rattle.trs_rules.specs.DerivationLaws.{DerivationsAreChains};
 ghost use Rattle.trs_rules.specs.Laws.{PlacedStepsAreSteps, StepsArePlaced, ChainsAreTheirSteps, ChainsAppend};
 ghost use Rattle.trs_rules.specs.Laws.{LeadsToItself, StepsLead, LeadsAreTransitive, MoreRulesKeepSteps, StepsStayOver};
 ghost use Rattle.trs_rules.specs.Laws.{ChainsStayOver};
@@ -41,6 +42,11 @@ pub fn chains_are_counted()
     ensures sum { CountsAddUp }
     ensures within { WithinIsInSome }
     ensures some { LeadsIsInSome }
+{}
+
+/// A derivation leads from its start to a term exactly where a chain of as many steps does.
+pub fn derivations_are_chains()
+    ensures { DerivationsAreChains }
 {}
 
 /// Steps are kept where more rules follow.
