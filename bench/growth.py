@@ -17,8 +17,11 @@ marked.
 Families:
   reading   no rule, one automaton; what takes time is reading
   faulty    the same with a fault at its end
-  closure   one rule over one variable, and a closed automaton: each state is tried for the variable
-  missing   no rule, two automata that have no term in common
+  closure   one rule over one variable, and a closed automaton: each state is tried for the variable, and the states that
+            are tried are found once
+  swapping  one rule over two variables, and a closed automaton: for each state of the first variable the states that are
+            tried for the second one are found anew
+  missing   no rule, two automata that have no term in common: there is a mark for each pair of their states
 """
 
 import os
@@ -74,6 +77,16 @@ def closure(count, chance):
     return head + automaton("A", states, transitions, ["q0"], chance)
 
 
+def swapping(count, chance):
+    states = [f"q{i}" for i in range(count)]
+    transitions = ["a -> q0"]
+    for i in range(count):
+        other, target = chance.randrange(count), chance.randrange(count)
+        transitions += [f"f(q{i},q{other}) -> q{target}", f"g(q{other},q{i}) -> q{target}"]
+    head = "Ops a:0 f:2 g:2\nVars x y\nTRS R\nf(x,y) -> g(y,x)\n"
+    return head + automaton("A", states, transitions, ["q0"], chance)
+
+
 def missing(count, chance):
     """A chain of successors in each automaton; the one ends at an odd and the other at an even number."""
     text = "Ops a:0 f:1\nTRS R\n"
@@ -88,6 +101,7 @@ FAMILIES = [
     (reading, [4000, 8000, 16000]),
     (faulty, [4000, 8000, 16000]),
     (closure, [1000, 2000, 4000]),
+    (swapping, [500, 1000, 2000]),
     (missing, [4000, 8000, 16000]),
 ]
 
