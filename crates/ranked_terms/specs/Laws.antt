@@ -1,4 +1,4 @@
--- Laws of terms, patterns and their variables (TATA, section 1.1), which the calls of src/laws.rt carry.
+-- Laws of terms, patterns and their variables (TATA, Preliminaries), which the calls of src/laws.rt carry.
 use Rattle.std.specs.Prelude.{◌≡◌, ◌↔◌, ℕ, ◌+◌, ◌≤◌, List, [], ◌∷◌, ◌++◌, IsTrue, sum, map, nat_eq, All, Contains, filter, not, ◌==◌}
 use Rattle.std.specs.List.{IsDistinct}
 use Rattle.ranked_terms.specs.Names.{Symbol}

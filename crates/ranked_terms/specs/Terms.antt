@@ -1,4 +1,4 @@
--- Ground terms, patterns and configurations (TATA, section 1.1): sizes, heights, instances, and which terms are over a signature.
+-- Ground terms, patterns and configurations (TATA, Preliminaries): sizes, heights, instances, and which terms are over a signature.
 use Rattle.std.specs.Prelude.{ℕ, ◌+◌, max, Bool, true, false, ◌==◌, ◌&&◌, List, [], ◌∷◌, ◌++◌, Option, Some, None, sum, length, fold, if◌then◌else◌}
 use Rattle.std.specs.List.{list_all, list_any}
 use Rattle.ranked_terms.specs.Names.{Symbol, arity_of}

@@ -17,7 +17,7 @@ impl Term {
         Term { sym, args }
     }
 
-    /// The number of the term's symbols (TATA, section 1.1), or `cap` where that is less. It looks at no more than `cap`
+    /// The number of the term's symbols (TATA, Preliminaries), or `cap` where that is less. It looks at no more than `cap`
     /// symbols, and takes no memory.
     pub fn size_to(&self, cap: u32) -> u32
         ensures { result ≡ min (size_of self.now) cap }
@@ -32,7 +32,7 @@ impl Term {
         cap - left
     }
 
-    /// The term's height (TATA, section 1.1), or `cap` where that is less. The height of a constant is 1. It goes no
+    /// The term's height (TATA, Preliminaries), or `cap` where that is less. The height of a constant is 1. It goes no
     /// deeper than `cap`, and takes no memory.
     pub fn height_to(&self, cap: u32) -> u32
         ensures { result ≡ min (height_of self.now) cap }

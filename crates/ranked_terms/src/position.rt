@@ -5,7 +5,7 @@ use std::alloc::{AllocError, Global};
 use std::marker::Model;
 
 /// A position in a term: the numbers of the arguments on the way from the root, counted from 1. The root is the
-/// empty list (TATA, section 1.1).
+/// empty list (TATA, Preliminaries).
 #[derive(Debug, Drop)]
 pub struct Position {
     steps: Vec<u32>,

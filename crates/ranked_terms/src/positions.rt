@@ -12,7 +12,8 @@ use std::alloc::{AllocError, Global};
 
 impl Term {
     /// The positions of all subterms, each once, in preorder, which is their order as lists. Each argument can be named
-    /// by 32 bits. The only error is running out of memory.
+    /// by 32 bits. Each position is a list of its own, so a term that is nested n deep takes memory of the order of n times
+    /// n: 2 MB at 1,024 levels. The only error is running out of memory.
     pub fn positions(&self, alloc: Global) -> Result<Seq<Position>, AllocError>
         requires { IsTrue (is_narrow self.now) }
         ensures each { IfOk result (λ list. (p : List ℕ) → Contains list p ↔ HasPosition self.now p) }

@@ -10,7 +10,7 @@ use crate::term::Term;
 use std::alloc::{AllocError, Global};
 
 impl Term {
-    /// The subterm at the position (TATA, section 1.1). `None` exactly where there is no such position. It takes no memory,
+    /// The subterm at the position (TATA, Preliminaries). `None` exactly where there is no such position. It takes no memory,
     /// and no stack that grows with the position.
     pub fn subterm(&self, at: &Position) -> Option<&Term>
         ensures { (u : Ground) → (option_copied result ≡ Some u) ↔ SubtermAt at.now self.now u }

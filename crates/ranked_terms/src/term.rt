@@ -4,7 +4,7 @@ ghost use Rattle.std.specs.Prelude.{◌≡◌, IfOk};
 use crate::seq::Seq;
 use std::alloc::{AllocError, Global};
 
-/// A ground term: a symbol applied to ground terms, as many as its arity says (TATA, section 1.1).
+/// A ground term: a symbol applied to ground terms, as many as its arity says (TATA, Preliminaries).
 ///
 /// Most calls on terms go down by recursion, among them `copy`, `==` and the drop of a term, so a deep term uses the stack:
 /// 8 MB are enough for 16,000 nested symbols, and not for 65,000.

@@ -1,4 +1,4 @@
--- Sets of states on the way to the states of a run. These serve private contracts alone.
+-- Sets of states on the way to the states of a run. `ReachedFrom` is what `closure_of` answers by; the others serve private contracts alone.
 use Rattle.std.specs.Prelude.{ℕ, List}
 use Rattle.std.specs.List.{Contains, AllZip}
 use Rattle.ta_core.specs.TreeAutomaton.{TreeAutomaton, trans_of}

@@ -9,7 +9,7 @@ use crate::trans::Trans;
 use std::cmp::Ordering;
 
 impl Automaton {
-    /// The transitions of the symbol, by arguments and target.
+    /// The transitions of the symbol.
     pub fn trans_with(&self, sym: u32) -> &[Trans]
         ensures members { (t : Transition) → Contains result.now t ↔ (Contains self.now.trans t × (t.sym ≡ sym)) }
         ensures sound { IsSound self.now }
@@ -21,7 +21,7 @@ impl Automaton {
         &rest[..count]
     }
 
-    /// The transitions of the symbol whose arguments begin with these states, by arguments and target.
+    /// The transitions of the symbol whose arguments begin with these states.
     pub fn trans_from(&self, sym: u32, prefix: &[u32]) -> &[Trans]
         ensures members { (t : Transition) → Contains result.now t ↔
             (Contains self.now.trans t × (t.sym ≡ sym) × ((rest : List ℕ) × (t.args ≡ prefix.now ++ rest))) }
@@ -34,7 +34,7 @@ impl Automaton {
         &rest[..count]
     }
 
-    /// The epsilon transitions from the state, by target.
+    /// The epsilon transitions from the state.
     pub fn eps_from(&self, state: u32) -> &[(u32, u32)]
         ensures members { (e : ℕ × ℕ) → Contains result.now e ↔ (Contains self.now.eps e × (e.0 ≡ state)) }
         ensures sound { IsSound self.now }

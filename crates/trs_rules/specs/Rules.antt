@@ -15,7 +15,7 @@ pub record RewriteRule : Type 0 where
 abbrev pub IsVariable : Pattern → Type 0
 IsVariable p = (v : ℕ) × (p ≡ Var v)
 
--- no variable stands twice in the pattern (TATA, section 1.1)
+-- no variable stands twice in the pattern (TATA, Preliminaries)
 abbrev pub IsLinear : Pattern → Type 0
 IsLinear p = AllPairs (λ v w. v ≢ w) (occurrences p)
 
