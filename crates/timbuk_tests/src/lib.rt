@@ -11,6 +11,8 @@ mod fakes;
 #[cfg(test)]
 mod of_ranked_terms;
 #[cfg(test)]
+mod of_reading;
+#[cfg(test)]
 mod of_ta_core;
 #[cfg(test)]
 mod of_tim_io;
@@ -18,5 +20,7 @@ mod of_tim_io;
 mod of_timbuk_grammar;
 #[cfg(test)]
 mod of_timbuk_lex;
+#[cfg(test)]
+mod of_top_call;
 #[cfg(test)]
 mod of_trs_rules;
