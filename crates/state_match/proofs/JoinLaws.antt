@@ -1,23 +1,25 @@
 -- From the states of arguments to those of an application, and back.
-use Rattle.std.proofs.Common.{◌≡◌, ◌↔◌, ◌<◌, ◌≤◌, ◌+◌, ℕ, zero, suc, List, [], ◌∷◌, ◌++◌, length, take, drop, map, get_or, refl, sym, ap, ◌∙◌, subst, inr, Bool, true, false, ◌==◌, arith}
+use Rattle.std.proofs.Common.{◌≡◌, ◌↔◌, ◌<◌, ◌≤◌, ◌+◌, ℕ, zero, suc, List, [], ◌∷◌, ◌++◌, length, take, drop, map, get_or, refl, sym, ap, ◌∙◌, subst, inr, Bool, true, false, true≢false, ◌==◌, arith}
 use Rattle.std.specs.List.{Contains, All, AllZip, position_or_len}
-use Rattle.std.proofs.lemmas.List.{take_more, take_all, drop_more, map-append, take-append-drop}
-use Rattle.std.proofs.lemmas.List.Elements.{All-contains}
+use Rattle.std.proofs.lemmas.Bool.{eqb-true}
+use Rattle.std.proofs.lemmas.List.{length-map, take_more, take_all, drop_more, map-append, take-append-drop}
+use Rattle.std.proofs.lemmas.List.Elements.{All-contains, All-cons}
 use Rattle.ranked_terms.specs.Terms.{assigned}
 use Rattle.ranked_terms.specs.declared.term.Pattern.{Pattern, Var, App as App'}
 use Rattle.ranked_terms.specs.declared.term.Config.{Config, State, App}
-use Rattle.ranked_terms.specs.lemmas.TermLaws.{assigned_app, assigned_var}
+use Rattle.ranked_terms.specs.lemmas.TermLaws.{assigned_app, assigned_var, same_application}
 use Rattle.ta_core.specs.Closure.{state_in}
 use Rattle.ta_core.specs.TreeAutomaton.{TreeAutomaton, IsSound, IsTransOf, IsEpsOf, bare, trans_of}
 use Rattle.list_laws.specs.Lists.{IsUnion}
 use Rattle.ta_core.specs.Runs.{Runs, RunsAll, Reaches}
+use Rattle.ta_core.specs.declared.trans.Trans.{Trans}
 use Rattle.ta_core.specs.Reached.{ReachedFrom, HasTransInto, EntersAndReaches}
 use Rattle.list_laws.proofs.Members.{all_from_members}
 use Rattle.ta_core.specs.lemmas.RunsLaws.{run_of_app, run_of_state, run_of_plain, plain_of_run}
 use Rattle.ta_core.specs.lemmas.RunStates.{AreExact, exact_more, runs_of_app, entered_and_reached}
 use Rattle.list_laws.proofs.Zips.{zip_length}
-use Rattle.state_match.specs.Rows.{FitsFrom, IsNextAt, IsClosedBack, IsReverse, turn, RunsFor}
-use Rattle.state_match.proofs.Members.{here, there, map_has, map_had}
+use Rattle.state_match.specs.Rows.{FitsFrom, IsNextAt, IsClosedBack, IsFirst, IsReverse, turn, turn_row, RunsFor}
+use Rattle.state_match.proofs.Members.{here, there, none, map_has, map_had}
 
 -- ---- sets of states at their places
 
@@ -137,13 +139,13 @@ runs_length (RunsAll.more r rs) = ap suc (runs_length rs)
 
 -- the argument runs to a state of the column
 pub column_has : (A : TreeAutomaton) (f q : ℕ) (cs : List Config) (c : Config) (more : List Config) (sets : List (List ℕ)) (wanted column : List ℕ) → IsClosedBack A wanted → AreExact A cs sets →
-    ((x : ℕ) → Contains column x ↔ IsNextAt A.trans f sets (length (cs ++ c ∷ more)) wanted x) → Contains wanted q → Runs A (App f (cs ++ c ∷ more)) q → (x : ℕ) × Contains column x × Runs A c x
+    ((x : ℕ) → IsNextAt A.trans f sets (length (cs ++ c ∷ more)) wanted x → Contains column x) → Contains wanted q → Runs A (App f (cs ++ c ∷ more)) q → (x : ℕ) × Contains column x × Runs A c x
 column_has A f q cs c more sets wanted column closed exact members want r =
     let a = run_of_app f (cs ++ c ∷ more) q r in
     let h = split A cs c more sets exact a.args in
     let plain_sum : 0 + length sets ≡ length sets = omega arith in (
       h.state,
-      (members h.state).1 (record {
+      members h.state (record {
         next = record {
           row = trans_of f a.states a.target;
           has = a.has;
@@ -156,6 +158,10 @@ column_has A f q cs c more sets wanted column closed exact members want r =
       }),
       h.runs,
     )
+
+pub some_items : {X : Type 0} (items : List X) → (length items == 0) ≡ false → 0 < length items
+some_items [] e = absurd (true≢false e)
+some_items (x ∷ xs) e = omega arith
 
 -- ---- the sets of the first arguments
 
@@ -213,7 +219,7 @@ module _ (A : TreeAutomaton) (vars bound : List ℕ) where
       subst (λ xs. Contains xs s) (sym e) (closed s q (run_of_state s q run).1 want)
 
   pub narrow_app : (f : ℕ) (items args : List Pattern) (i arity : ℕ) (arg : Pattern) (sets : List (List ℕ)) (wanted column back : List ℕ) (B : TreeAutomaton) → IsReverse A B → items ≡ args → i < length items → arg ≡ get_or items i arg → arity ≡ length args →
-      AreSets (take i items) sets → ((x : ℕ) → Contains column x ↔ IsNextAt A.trans f sets arity wanted x) → ((q : ℕ) → Contains back q ↔ ReachedFrom B column q) →
+      AreSets (take i items) sets → ((x : ℕ) → IsNextAt A.trans f sets arity wanted x → Contains column x) → ((q : ℕ) → Contains back q ↔ ReachedFrom B column q) →
       (states : List ℕ) → Narrows back arg states → Narrows wanted (App' f args) states
   narrow_app f items args i arity arg sets wanted column back B v e l is long exact members all states inner closed s rest q want r =
       let g : Pattern → Config = assigned (state_in vars (bound ++ s ∷ rest)) in
@@ -222,8 +228,48 @@ module _ (A : TreeAutomaton) (vars bound : List ℕ) where
       let count : arity ≡ length (map g (take i items) ++ g arg ∷ map g (drop (i + 1) items)) = long ∙ (sym (mapped_length g args) ∙ ap (λ (xs : List Config). length xs) cs) in
       let run : Runs A (App f (map g (take i items) ++ g arg ∷ map g (drop (i + 1) items))) q = subst (λ c. Runs A c q) (assigned_app (state_in vars (bound ++ s ∷ rest)) f args ∙ ap (App f) cs) r in
       let h = column_has A f q (map g (take i items)) (g arg) (map g (drop (i + 1) items)) sets wanted column closed (exact (s ∷ rest))
-      (λ x. subst (λ n. Contains column x ↔ IsNextAt A.trans f sets n wanted x) count (members x)) want run in
+      (λ x. subst (λ n. IsNextAt A.trans f sets n wanted x → Contains column x) count (members x)) want run in
       inner (closed_back A B v column back all) s rest h.0 (in_back B column back all h.0 h.1) h.2
+
+  -- ---- the first argument of the whole pattern
+
+  head : (items : List Pattern) (x : Pattern) → 0 < length items → x ≡ get_or items 0 x → (tail : List Pattern) × (items ≡ x ∷ tail)
+  head [] x l e = absurd (omega arith)
+  head (y ∷ ys) x l e = (ys, λ i. sym e i ∷ ys)
+
+  pub narrow_first : (p : Pattern) (f : ℕ) (args items : List Pattern) (arg : Pattern) (all first states : List ℕ) → p ≡ App' f args → items ≡ args → 0 < length items → arg ≡ get_or items 0 arg → IsFirst A all p first →
+      Narrows first arg states → Narrows all p states
+  narrow_first p f args items arg all first states is same l at known inner closed s rest q want r =
+      let g : Pattern → Config = assigned (state_in vars (bound ++ s ∷ rest)) in
+      let h = head items arg l at in
+      let whole : args ≡ arg ∷ h.0 = sym same ∙ h.1 in
+      let run : Runs A (App f (g arg ∷ map g h.0)) q = subst (λ c. Runs A c q) (ap g is ∙ (assigned_app (state_in vars (bound ++ s ∷ rest)) f args ∙ ap (λ ps. App f (map g ps)) whole)) r in
+      let count : length args ≡ length (g arg ∷ map g h.0) = ap (λ (ps : List Pattern). length ps) whole ∙ ap suc (sym (mapped_length g h.0)) in
+      let x = known.has f args is closed (g arg) (map g h.0) q count want run in
+      inner known.closed s rest x.0 x.1 x.2
+
+-- what is wanted of the first argument
+pub first_is : (A B : TreeAutomaton) → IsReverse A B → (p : Pattern) (sym' : ℕ) (args : List Pattern) (count : ℕ) (wanted column back : List ℕ) → p ≡ App' sym' args → count ≡ length args →
+    ((x : ℕ) → IsNextAt A.trans sym' [] count wanted x → Contains column x) → ((q : ℕ) → Contains back q ↔ ReachedFrom B column q) → IsFirst A wanted p back
+first_is A B v p sym' args count wanted column back is long members exact = record {
+  closed = closed_back A B v column back exact;
+  has = λ f others e closed c more q n want r.
+      let same : App' f others ≡ App' sym' args = sym e ∙ is in
+      let g : Pattern → Config = assigned (λ v. v) in
+      let both = same_application f sym' (map g others) (map g args) (sym (assigned_app (λ v. v) f others) ∙ (ap g same ∙ assigned_app (λ v. v) sym' args)) in
+      let symbol = both.0 in
+      let as_many : length others ≡ length args = sym (length-map others g) ∙ (ap (λ (cs : List Config). length cs) both.1 ∙ length-map args g) in
+      let enough : count ≡ length (c ∷ more) = long ∙ (sym as_many ∙ n) in
+      let h = column_has A f q [] c more [] wanted column closed tt
+          (λ x m. members x (subst (λ k. IsNextAt A.trans sym' [] k wanted x) (sym enough) (subst (λ g. IsNextAt A.trans g [] (length (c ∷ more)) wanted x) symbol m))) want r in
+      (h.0, in_back B column back exact h.0 h.1, h.2);
+}
+
+pub first_of_variable : (A : TreeAutomaton) (p : Pattern) (v : ℕ) (wanted first : List ℕ) → p ≡ Var v → first ≡ [] → IsFirst A wanted p first
+first_of_variable A p v wanted first is e = record {
+  closed = λ x y r c. absurd (none y (subst (λ xs. Contains xs y) e c));
+  has = λ f args other closed c more q n want r. let same : Var v ≡ App' f args = sym is ∙ other in cc;
+}
 
 -- ---- automata that runs are looked up in
 
@@ -233,11 +279,39 @@ turned_pairs A C states eps sound e same = all_from_members (IsEpsOf C.states) e
     let s = All-contains (IsEpsOf A.states) A.eps h.0 sound.eps h.1 in
     subst (IsEpsOf C.states) h.2 (record { from = subst (λ qs. Contains qs h.0.1) (sym same) s.to; to = subst (λ qs. Contains qs h.0.0) (sym same) s.from; moves = λ k. s.moves (sym k) }))
 
-pub reverse_is : (A B C : TreeAutomaton) (eps : List (ℕ × ℕ)) → eps ≡ map turn A.eps → C ≡ bare A.next A.states → IsUnion C.eps eps B.eps → B ≡ record C { eps = B.eps } → IsReverse A B
-reverse_is A B C eps e c union b = record {
-  states = λ q i. subst (λ (X : TreeAutomaton). Contains X.states q) (sym b) (subst (λ (X : TreeAutomaton). Contains X.states q) (sym c) i);
-  eps = λ p q i. (union (q, p)).1 (inr (subst (λ xs. Contains xs (q, p)) (sym e) (map_has turn A.eps (p, q) i)));
+pub turned_trans : (A C : TreeAutomaton) (rows : List Trans) → IsSound A → rows ≡ map turn_row A.trans → C.states ≡ A.states → All (IsTransOf C.states) rows
+turned_trans A C rows sound e same = all_from_members (IsTransOf C.states) rows (λ x c.
+    let h = map_had turn_row A.trans x (subst (λ xs. Contains xs x) e c) in
+    let s = All-contains (IsTransOf A.states) A.trans h.0 sound.trans h.1 in
+    subst (IsTransOf C.states) h.2 (subst (λ qs. IsTransOf qs (turn_row h.0)) (sym same) (record { args = All-cons (Contains A.states) h.0.to h.0.args s.to s.args; to = s.to })))
+
+pub reverse_is : (A B C D : TreeAutomaton) (eps : List (ℕ × ℕ)) (rows : List Trans) → eps ≡ map turn A.eps → rows ≡ map turn_row A.trans → C ≡ bare A.next A.states → IsUnion C.eps eps B.eps → B ≡ record C { eps = B.eps } →
+    IsUnion B.trans rows D.trans → D ≡ record B { trans = D.trans } → IsReverse A D
+reverse_is A B C D eps rows e f c union b more d = record {
+  states = λ q i. subst (λ (X : TreeAutomaton). Contains X.states q) (sym d) (subst (λ (X : TreeAutomaton). Contains X.states q) (sym b) (subst (λ (X : TreeAutomaton). Contains X.states q) (sym c) i));
+  eps = λ p q i. subst (λ (X : TreeAutomaton). Contains X.eps (q, p)) (sym d) ((union (q, p)).1 (inr (subst (λ xs. Contains xs (q, p)) (sym e) (map_has turn A.eps (p, q) i))));
+  trans = λ t i. (more (turn_row t)).1 (inr (subst (λ xs. Contains xs (turn_row t)) (sym f) (map_has turn_row A.trans t i)));
 }
+
+pub no_sets : (sets : List (List ℕ)) → (length sets == 0) ≡ true → sets ≡ []
+no_sets [] e = refl
+no_sets (x ∷ xs) e = let z : length (x ∷ xs) ≡ 0 = eqb-true _ _ e in absurd (omega arith)
+
+-- what stands as the first argument of a transition to a wanted state stands behind its target, where that comes first
+pub next_turned : (A B : TreeAutomaton) → IsSound A → IsReverse A B → (f arity : ℕ) (wanted all : List ℕ) → all ≡ A.states → (x : ℕ) → IsNextAt A.trans f [] arity wanted x → IsNextAt B.trans f (wanted ∷ []) (arity + 1) all x
+next_turned A B sound v f arity wanted all e x n =
+    let m = n.next in
+    record {
+      next = record {
+        row = turn_row m.row;
+        has = v.trans m.row m.has;
+        fits = (m.row.to, refl, m.wanted, tt);
+        arity = omega (arith, m.arity);
+        wanted = subst (λ qs. Contains qs m.row.to) (sym e) (All-contains (IsTransOf A.states) A.trans m.row sound.trans m.has).to;
+        is = m.is;
+      };
+      symbol = n.symbol;
+    }
 
 pub runs_for_all : (A B : TreeAutomaton) (plain : Bool) → plain ≡ false → B ≡ A → RunsFor plain A B
 runs_for_all A B plain e same = subst (λ b. RunsFor b A B) (sym e) (subst (RunsFor false A) (sym same) (record { states = refl; runs = λ c q. (λ r. r, λ r. r) }))

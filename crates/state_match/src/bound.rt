@@ -1,9 +1,10 @@
 //! A pattern whose first variables stand for states.
 ghost use Rattle.std.specs.Prelude.{◌≡◌, ◌↔◌, ℕ, [], Contains, IfOk};
-ghost use Rattle.state_match.specs.Rows.{IsReverse, RunsFor};
+ghost use Rattle.state_match.specs.Rows.{IsFirst, IsReverse, RunsFor};
 
 use crate::assigned::assigned_states;
-use crate::join::narrow;
+use crate::join::narrow_whole;
+use crate::rows::no_states;
 use crate::walk::Narrowed;
 use ranked_terms::Pattern;
 use std::alloc::{AllocError, Global};
@@ -19,6 +20,7 @@ pub(crate) struct Bound<'a> {
     runs: &'a Automaton,
     reversed: &'a Automaton,
     all: &'a StateSet,
+    first: &'a StateSet,
     pattern: &'a Pattern,
     vars: &'a [u32],
     states: Vec<u32>,
@@ -29,7 +31,7 @@ impl<'a> Model for Bound<'a> {
     ghost use Rattle.std.specs.Coded.{codes};
     ghost use Rattle.ranked_terms.specs.contracts.term.Pattern as patterns;
     ghost use Rattle.state_match.specs.Rests.{Rest};
-    ghost use Rattle.state_match.specs.Rows.{IsReverse, RunsFor};
+    ghost use Rattle.state_match.specs.Rows.{IsFirst, IsReverse, RunsFor};
 
     ghost Value = { Rest };
 
@@ -37,7 +39,7 @@ impl<'a> Model for Bound<'a> {
 
     ghost view = { λ b. record { plain = b.plain; automaton = b.automaton.now; vars = b.vars.now; pattern = b.pattern.now; bound = b.states.items } };
 
-    ghost invariant = { λ b. All (Contains b.automaton.now.states) b.states.items × RunsFor b.plain b.automaton.now b.runs.now × IsReverse b.runs.now b.reversed.now × (b.all.now ≡ b.runs.now.states) };
+    ghost invariant = { λ b. All (Contains b.automaton.now.states) b.states.items × RunsFor b.plain b.automaton.now b.runs.now × IsReverse b.runs.now b.reversed.now × (b.all.now ≡ b.runs.now.states) × IsFirst b.runs.now b.all.now b.pattern.now b.first.now };
 }
 
 impl<'a> Bound<'a> {
@@ -49,12 +51,14 @@ impl<'a> Bound<'a> {
         runs: &'a Automaton,
         reversed: &'a Automaton,
         all: &'a StateSet,
+        first: &'a StateSet,
         pattern: &'a Pattern,
         vars: &'a [u32],
     ) -> Bound<'a>
         requires runs { RunsFor plain automaton.now runs.now }
         requires reverse { IsReverse runs.now reversed.now }
         requires all { all.now ≡ runs.now.states }
+        requires first { IsFirst runs.now all.now pattern.now first.now }
         ensures { result ≡ record { plain = plain; automaton = automaton.now; vars = vars.now; pattern = pattern.now; bound = [] } }
     {
         Bound {
@@ -64,6 +68,7 @@ impl<'a> Bound<'a> {
             runs,
             reversed,
             all,
+            first,
             pattern,
             vars,
             states: Vec::new(alloc),
@@ -79,14 +84,14 @@ impl<'a> Narrowed for Bound<'a> {
     fn candidates(&self) -> Result<StateSet, AllocError> {
         let every = self.runs.states();
         let bound = self.states.as_slice();
-        match narrow(
+        match narrow_whole(
             self.alloc,
             self.runs,
             self.reversed,
             self.all,
             self.vars,
             bound,
-            self.all,
+            self.first,
             self.pattern,
         )? {
             Some(states) => Ok(states),
@@ -107,6 +112,7 @@ impl<'a> Narrowed for Bound<'a> {
             runs: self.runs,
             reversed: self.reversed,
             all: self.all,
+            first: self.first,
             pattern: self.pattern,
             vars: self.vars,
             states,
@@ -127,12 +133,4 @@ impl<'a> Narrowed for Bound<'a> {
             bound,
         )
     }
-}
-
-/// The empty set. The only error is running out of memory.
-#[tactic(auto, using(crate::proofs::Members::nothing_ascends))]
-fn no_states(alloc: Global) -> Result<StateSet, AllocError>
-    ensures { IfOk result (λ all. all ≡ []) }
-{
-    StateSet::from_slice(alloc, &[])
 }

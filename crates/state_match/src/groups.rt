@@ -4,6 +4,7 @@ ghost use Rattle.state_match.specs.Matches.{MatchesAt};
 ghost use Rattle.state_match.specs.Groups.{group_of, TookAll, TookFirst, TookUpTo};
 
 use crate::bound::Bound;
+use crate::join::first_wanted;
 use crate::plain::{reversed, runs_for};
 use crate::walk::walk;
 use ranked_terms::Pattern;
@@ -56,8 +57,9 @@ pub fn each_group<V: Groups>(
     let runs = runs_for(automaton, plain)?;
     let reversed = reversed(alloc, &runs)?;
     let all = StateSet::from_slice(alloc, runs.states())?;
+    let first = first_wanted(alloc, &runs, &reversed, &all, pattern)?;
     let start = Bound::new(
-        alloc, plain, automaton, &runs, &reversed, &all, pattern, vars,
+        alloc, plain, automaton, &runs, &reversed, &all, &first, pattern, vars,
     );
     let mut assignment = Vec::new(alloc);
     walk(&start, vars.len(), &mut assignment, visitor)

@@ -1,13 +1,13 @@
 //! The states of a pattern whose first variables stand for states, and the states with which it can go on.
-ghost use Rattle.std.specs.Prelude.{◌≡◌, ◌↔◌, ℕ, List, ◌∷◌, ◌++◌, length, All, Contains, IfOk, IfSome};
+ghost use Rattle.std.specs.Prelude.{◌≡◌, ◌↔◌, ◌+◌, ◌<◌, ◌^◌, ℕ, List, ◌∷◌, ◌++◌, length, All, Contains, IfOk, IfSome};
 ghost use Rattle.ranked_terms.specs.Terms.{assigned};
 ghost use Rattle.ta_core.specs.Closure.{state_in};
 ghost use Rattle.ta_core.specs.Runs.{Runs};
 ghost use Rattle.ta_core.specs.Reached.{EntersAndReaches};
-ghost use Rattle.state_match.specs.Rows.{IsClosedBack, IsReverse};
+ghost use Rattle.state_match.specs.Rows.{IsClosedBack, IsFirst, IsNextAt, IsReverse};
 
 use crate::places::place_of;
-use crate::rows::next_states;
+use crate::rows::{next_states, no_states};
 use ranked_terms::Pattern;
 use std::alloc::{AllocError, Global};
 use ta_core::{Automaton, StateSet};
@@ -94,13 +94,9 @@ pub(crate) fn narrow(
                 match value(alloc, automaton, all, vars, bound, arg)? {
                     Some(set) => sets.push(set)?,
                     None => {
-                        let column = next_states(
-                            alloc,
-                            automaton,
-                            *sym,
-                            &sets,
-                            args.len(),
-                            wanted,
+                        let count = args.as_slice().len();
+                        let column = column(
+                            alloc, automaton, reversed, all, *sym, &sets, count, wanted,
                         )?;
                         let back = reversed.closure_of(&column)?;
                         return narrow(alloc, automaton, reversed, all, vars, bound, &back, arg);
@@ -110,4 +106,88 @@ pub(crate) fn narrow(
             Ok(None)
         }
     }
+}
+
+/// As `narrow` where all states are wanted of the pattern, and these of its first argument, whatever the variables stand for.
+pub(crate) fn narrow_whole(
+    alloc: Global,
+    automaton: &Automaton,
+    reversed: &Automaton,
+    all: &StateSet,
+    vars: &[u32],
+    bound: &[u32],
+    first: &StateSet,
+    pattern: &Pattern,
+) -> Result<Option<StateSet>, AllocError>
+    requires all { all.now ≡ automaton.now.states }
+    requires reverse { IsReverse automaton.now reversed.now }
+    requires first { IsFirst automaton.now all.now pattern.now first.now }
+    ensures { IfOk result (λ states. IfSome states (λ states. IsClosedBack automaton.now all.now → (s : ℕ) (rest : List ℕ) (q : ℕ) → Contains all.now q →
+        Runs automaton.now (assigned (state_in vars.now (bound.now ++ s ∷ rest)) pattern.now) q → Contains states s)) }
+{
+    if let Pattern::App(_, args) = pattern {
+        let args = args.as_slice();
+        if !args.is_empty() {
+            let arg = &args[0];
+            if let Some(states) =
+                narrow(alloc, automaton, reversed, all, vars, bound, first, arg)?
+            {
+                return Ok(Some(states));
+            }
+        }
+    }
+    narrow(alloc, automaton, reversed, all, vars, bound, all, pattern)
+}
+
+/// What is wanted of the first argument of the pattern where all states are wanted of the pattern, whatever its variables stand
+/// for. The only error is running out of memory.
+pub(crate) fn first_wanted(
+    alloc: Global,
+    automaton: &Automaton,
+    reversed: &Automaton,
+    all: &StateSet,
+    pattern: &Pattern,
+) -> Result<StateSet, AllocError>
+    requires all { all.now ≡ automaton.now.states }
+    requires reverse { IsReverse automaton.now reversed.now }
+    ensures { IfOk result (λ first. IsFirst automaton.now all.now pattern.now first) }
+{
+    match pattern {
+        Pattern::Var(_) => no_states(alloc),
+        Pattern::App(sym, args) => {
+            let sets = Vec::new(alloc);
+            let count = args.as_slice().len();
+            let column = column(
+                alloc, automaton, reversed, all, *sym, &sets, count, all,
+            )?;
+            reversed.closure_of(&column)
+        }
+    }
+}
+
+/// States among which is each one that stands as the next argument in a transition of the symbol with so many arguments to a
+/// wanted state, behind first arguments from these sets. Where there are none, and fewer states are wanted than the symbol has
+/// transitions, these are looked up by their targets. The only error is running out of memory.
+fn column(
+    alloc: Global,
+    automaton: &Automaton,
+    reversed: &Automaton,
+    all: &StateSet,
+    sym: u32,
+    sets: &[StateSet],
+    arity: usize,
+    wanted: &StateSet,
+) -> Result<StateSet, AllocError>
+    requires all { all.now ≡ automaton.now.states }
+    requires reverse { IsReverse automaton.now reversed.now }
+    requires count { arity + 1 < 2 ^ 64 }
+    ensures next { IfOk result (λ states. (x : ℕ) → IsNextAt automaton.now.trans sym sets.now arity wanted.now x → Contains states x) }
+    ensures inside { IfOk result (All (Contains reversed.now.states)) }
+{
+    if !sets.is_empty() || automaton.trans_with(sym).len() <= wanted.as_slice().len() {
+        return next_states(alloc, automaton, sym, sets, arity, wanted);
+    }
+    let mut targets = Vec::new(alloc);
+    targets.push(StateSet::from_slice(alloc, wanted.as_slice())?)?;
+    next_states(alloc, reversed, sym, &targets, arity + 1, all)
 }

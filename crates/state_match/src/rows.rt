@@ -120,3 +120,11 @@ fn with_symbol(rows: &[Trans], sym: u32) -> &[Trans]
     let count = rest.partition_point(|t| t.sym <= sym);
     &rest[..count]
 }
+
+/// The empty set. The only error is running out of memory.
+#[tactic(auto, using(crate::proofs::Members::nothing_ascends))]
+pub(crate) fn no_states(alloc: Global) -> Result<StateSet, AllocError>
+    ensures { IfOk result (λ all. all ≡ []) }
+{
+    StateSet::from_slice(alloc, &[])
+}

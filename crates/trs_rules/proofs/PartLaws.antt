@@ -1,6 +1,6 @@
 -- A step at a position is a step of the subterm there, which is put in its place.
-use Rattle.std.proofs.Common.{◌≡◌, ◌↔◌, ℕ, zero, suc, ◌+◌, List, [], ◌∷◌, ◌++◌, length, slice_get, Option, Some, None, refl, sym, ap, subst, ◌∙◌, arith}
-use Rattle.ranked_terms.specs.Terms.{node, instance_of}
+use Rattle.std.proofs.Common.{◌≡◌, ◌↔◌, ℕ, List, [], ◌∷◌, ◌++◌, length, slice_get, Option, Some, None, refl, sym, subst, ◌∙◌, arith}
+use Rattle.ranked_terms.specs.Terms.{instance_of}
 use Rattle.ranked_terms.specs.Positions.{Argument, InArgument, SubtermAt, ReplacedAt}
 use Rattle.ranked_terms.specs.declared.term.Term.{Term}
 use Rattle.ranked_terms.specs.lemmas.TermLaws.{node_args}

@@ -1,14 +1,13 @@
 -- A rule's right side is matched with what its left side has bound.
-use Rattle.std.proofs.Common.{zero, suc, get_or, ◌≡◌, ◌↔◌, ℕ, ◌+◌, ◌<◌, ◌≤◌, Bool, true, false, ◌==◌, ◌||◌, List, [], ◌∷◌, length, refl, sym, ap, subst, ◌∙◌, ⊎_elim, arith}
+use Rattle.std.proofs.Common.{zero, suc, get_or, ◌≡◌, ◌↔◌, ℕ, ◌<◌, ◌≤◌, Bool, true, false, ◌==◌, ◌||◌, List, [], ◌∷◌, length, refl, sym, ap, subst, ◌∙◌, arith}
 use Rattle.std.specs.List.{Contains, list_any}
 use Rattle.std.proofs.lemmas.Bool.{eq-eqb}
-use Rattle.ranked_terms.specs.Terms.{instance_of, occurrences, with_variable, variables_of}
+use Rattle.ranked_terms.specs.Terms.{occurrences}
 use Rattle.ranked_terms.specs.declared.term.Term.{Term}
-use Rattle.ranked_terms.specs.declared.term.Pattern.{Pattern}
 use Rattle.ranked_terms.specs.lemmas.VariableLaws.{occurrences-in_variables_of}
 use Rattle.trs_rules.specs.Rules.{RewriteRule, IsRule}
 use Rattle.trs_rules.proofs.VariableLaws.{with_old}
-use Rattle.ranked_terms.specs.Matching.{Agrees, IsInstance, IsBoundBy, bound_in, bound_with, with_variables}
+use Rattle.ranked_terms.specs.Matching.{IsInstance, IsBoundBy, bound_in, bound_with, with_variables}
 use Rattle.trs_rules.specs.Derivations.{IsStepBy}
 
 either_left : (a b : Bool) → a ≡ true → (a || b) ≡ true

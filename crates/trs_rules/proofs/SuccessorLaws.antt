@@ -7,15 +7,15 @@ use Rattle.std.specs.List.Sorted.{IsStrictlySortedBy}
 use Rattle.std.specs.Ordering.{MatchOrdering, nat_cmp, ordering_then}
 use Rattle.std.specs.declared.cmp.Ordering.{Ordering}
 use Rattle.std.specs.declared.cmp.Ordering.TheVariants.{Less, Equal, Greater}
-use Rattle.std.proofs.lemmas.List.{take_more, take_all}
-use Rattle.std.proofs.lemmas.List.Elements.{Contains-append_left, Contains-append_right, Contains-append_cases, Contains-push, Contains-push_cases}
+use Rattle.std.proofs.lemmas.List.{take_more}
+use Rattle.std.proofs.lemmas.List.Elements.{Contains-append_left, Contains-push, Contains-push_cases}
 use Rattle.ranked_terms.specs.Terms.{instance_of, occurrences}
-use Rattle.ranked_terms.specs.Matching.{Agrees, IsInstance, IsBoundBy, IsInstanceBy, bound_in, bound_with}
+use Rattle.ranked_terms.specs.Matching.{IsInstance, IsBoundBy, IsInstanceBy, bound_in}
 use Rattle.ranked_terms.specs.Positions.{HasPosition, SubtermAt, ReplacedAt}
 use Rattle.ranked_terms.specs.declared.term.Term.{Term}
 use Rattle.ranked_terms.specs.lemmas.VariableLaws.{occurrences-in_variables_of}
 use Rattle.trs_rules.specs.Rules.{RewriteRule, IsRule}
-use Rattle.trs_rules.specs.Steps.{RootStep, StepAt}
+use Rattle.trs_rules.specs.Steps.{StepAt}
 use Rattle.trs_rules.specs.Derivations.{AreSuccessors, AreStepsUpTo, IsTried, successor_order}
 use Rattle.trs_rules.specs.declared.successor.Successor.{Successor}
 use Rattle.trs_rules.proofs.PartLaws.{parts_of_step, step_of_parts}

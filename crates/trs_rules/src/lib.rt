@@ -21,5 +21,5 @@ pub use entry::Entry;
 pub use equation::Equation;
 pub use rule::{Rule, RuleFault, each_is_rule};
 pub use sigma::{Pair, Sigma};
-pub use variables::{TooManyVariables, Variables};
 pub use successor::{Successor, successors};
+pub use variables::{TooManyVariables, Variables};

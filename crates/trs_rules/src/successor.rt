@@ -62,7 +62,13 @@ fn add_steps(
 }
 
 // The term that the rule makes of this one at the position, if it applies there.
-fn rewrite_at(alloc: Global, rules: &[Rule], rule: u32, t: &Term, at: &Position) -> Result<Option<Term>, AllocError>
+fn rewrite_at(
+    alloc: Global,
+    rules: &[Rule],
+    rule: u32,
+    t: &Term,
+    at: &Position,
+) -> Result<Option<Term>, AllocError>
     requires { rule < length rules.now }
     ensures { IfOk result (λ o. (u : Ground) → (o ≡ Some u) ↔ StepAt rules.now rule at.now t.now u) }
 {

@@ -1,4 +1,4 @@
-use Rattle.std.proofs.Common.{◌≡◌, ◌<◌, ◌≤◌, false, refl, ap, subst, ◌∙◌, length, get_or, below_more, arith}
+use Rattle.std.proofs.Common.{◌<◌, ◌≤◌, false, refl, ap, subst, ◌∙◌, length, get_or, below_more, arith}
 use Rattle.std.specs.Prelude.{IsTrue}
 use Rattle.trs_rules.specs.Derivations.{IsStepOf}
 use Rattle.trs_rules.proofs.DerivationLaws.{along_start, along_next, is_step_of, step_of_is, first_bad_at, bad_is_none, all_good, none_bad}
@@ -10,7 +10,7 @@ returns-then-not-leads-clause-none c =
     let l : i < length d.steps = subst (λ xs. i < length xs) is_steps c.loop-i-test.true in
     let is = c.index-steps-i.is ∙ ap (λ xs. get_or xs i c.index-steps-i.result) is_steps in
     let bad : IsStepOf R d i → ⊥ = λ h.
-        let x : IsTrue false = c.if-not-leads.ensures.1 (step_of_is R d i c.index-steps-i.result c.loop-i.before.now l is c.loop-i.invariant.before h) in cc in
+    let x : IsTrue false = c.if-not-leads.ensures.1 (step_of_is R d i c.index-steps-i.result c.loop-i.before.now l is c.loop-i.invariant.before h) in cc in
     bad_is_none R d i l bad
 
 pub returns-then-not-leads-clause-some : goal.returns-then-not-leads-clause-some
@@ -19,7 +19,7 @@ returns-then-not-leads-clause-some c =
     let l : i < length d.steps = subst (λ xs. i < length xs) is_steps c.loop-i-test.true in
     let is = c.index-steps-i.is ∙ ap (λ xs. get_or xs i c.index-steps-i.result) is_steps in
     let bad : IsStepOf R d i → ⊥ = λ h.
-        let x : IsTrue false = c.if-not-leads.ensures.1 (step_of_is R d i c.index-steps-i.result c.loop-i.before.now l is c.loop-i.invariant.before h) in cc in
+    let x : IsTrue false = c.if-not-leads.ensures.1 (step_of_is R d i c.index-steps-i.result c.loop-i.before.now l is c.loop-i.invariant.before h) in cc in
     first_bad_at R d i l bad c.loop-i.invariant.earlier
 
 pub loop-i-init : goal.loop-i-init

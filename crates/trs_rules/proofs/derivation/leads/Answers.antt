@@ -1,8 +1,5 @@
-use Rattle.std.proofs.Common.{◌≡◌, Some, None, slice_get, refl, false}
-use Rattle.std.specs.Prelude.{IsTrue}
-use Rattle.trs_rules.specs.Steps.{StepAt}
 use Rattle.trs_rules.proofs.DerivationLaws.{at_place, no_place}
-use Rattle.trs_rules.proofs.PartLaws.{parts_of_step, step_of_parts, root_step_of, no_rule, no_parts, same_parts}
+use Rattle.trs_rules.proofs.PartLaws.{root_step_of, no_rule, no_parts, same_parts}
 use Rattle.trs_rules.proofs.derivation.leads.Goals as goal
 
 pub returns-in_default : goal.returns-in_default

@@ -1,7 +1,6 @@
-use Rattle.std.proofs.Common.{◌≡◌, ◌↔◌, ◌≤◌, [], length, refl, sym, subst}
+use Rattle.std.proofs.Common.{◌↔◌, ◌≤◌, [], length, refl, sym, subst}
 use Rattle.std.specs.Prelude.{IsTrue, false}
 use Rattle.ranked_terms.specs.Matching.{IsInstance, IsBoundBy, bound_with}
-use Rattle.trs_rules.specs.Derivations.{IsStepBy}
 use Rattle.trs_rules.proofs.RootLaws.{room_right, as_step, no_step}
 use Rattle.trs_rules.proofs.step.is_root_step.Goals as goal
 
@@ -9,7 +8,7 @@ pub returns-then-not-match_term : goal.returns-then-not-match_term
 returns-then-not-match_term c =
     let rule = c.args.rule.now in let s = c.args.s.now in
     let other : IsInstance rule.left s [] → ⊥ = λ h.
-        let x : IsTrue false = c.if-not-match_term.ensures.exactly.1 (subst (λ p. IsInstance p s c.new-binding.result) (sym c.left.ensures.side) (subst (IsInstance rule.left s) (sym c.new-binding.ensures) h)) in cc in
+    let x : IsTrue false = c.if-not-match_term.ensures.exactly.1 (subst (λ p. IsInstance p s c.new-binding.result) (sym c.left.ensures.side) (subst (IsInstance rule.left s) (sym c.new-binding.ensures) h)) in cc in
     (λ x. absurd (cc), λ h. absurd (no_step rule c.left.ensures.rule s c.args.t.now [] other h))
 
 pub match_term-requires-2 : goal.match_term-requires-2

@@ -1,7 +1,7 @@
-use Rattle.std.proofs.Common.{◌≡◌, [], refl, sym, subst, false}
+use Rattle.std.proofs.Common.{[], refl, sym, subst, false}
 use Rattle.std.specs.Prelude.{IsTrue, Contains}
 use Rattle.ranked_terms.specs.Terms.{occurrences}
-use Rattle.ranked_terms.specs.Matching.{IsInstance, IsBoundBy, IsInstanceBy, bound_in}
+use Rattle.ranked_terms.specs.Matching.{IsInstance, IsBoundBy, IsInstanceBy}
 use Rattle.trs_rules.proofs.DerivationLaws.{at_place}
 use Rattle.trs_rules.proofs.SuccessorLaws.{no_position, no_match, rewritten, right_is_bound}
 use Rattle.trs_rules.proofs.successor.rewrite_at.Goals as goal
@@ -15,7 +15,7 @@ pub returns-then-not-match_term : goal.returns-then-not-match_term
 returns-then-not-match_term c =
     let R = c.args.rules.now in let rule = c.index-rules-rule.result in let u = c.in-Some.inner.now in
     let other : IsInstance rule.left u [] → ⊥ = λ h.
-        let x : IsTrue false = c.if-not-match_term.ensures.exactly.1 (subst (λ p. IsInstance p u c.new-binding.result) (sym c.left.ensures.side) (subst (IsInstance rule.left u) (sym c.new-binding.ensures) h)) in cc in
+    let x : IsTrue false = c.if-not-match_term.ensures.exactly.1 (subst (λ p. IsInstance p u c.new-binding.result) (sym c.left.ensures.side) (subst (IsInstance rule.left u) (sym c.new-binding.ensures) h)) in cc in
     no_match R c.args.rule rule c.args.at.now c.args.t.now (at_place R c.args.rule rule c.requires c.index-rules-rule.is) u c.in-Some.ensures other
 
 pub instance-requires : goal.instance-requires

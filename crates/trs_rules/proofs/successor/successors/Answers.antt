@@ -1,6 +1,4 @@
-use Rattle.std.proofs.Common.{[], sym, subst, ap, ◌∙◌}
-use Rattle.std.specs.Prelude.{Contains, ◌↔◌}
-use Rattle.ranked_terms.specs.Positions.{HasPosition}
+use Rattle.std.proofs.Common.{[], sym, subst}
 use Rattle.trs_rules.specs.Derivations.{AreStepsUpTo}
 use Rattle.trs_rules.proofs.SuccessorLaws.{at_none, next_rule, all_rules}
 use Rattle.trs_rules.proofs.successor.successors.Goals as goal

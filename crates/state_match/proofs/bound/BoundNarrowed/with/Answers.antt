@@ -18,4 +18,5 @@ invariant_of-result c =
       c.self.invariant.1,
       c.self.invariant.2,
       c.self.invariant.3,
+      c.self.invariant.4,
     )
