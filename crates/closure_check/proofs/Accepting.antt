@@ -1,16 +1,14 @@
 -- An automaton that is accepted has nothing that another answer could name.
-use Rattle.std.proofs.Common.{◌≡◌, ℕ, IsTrue, List, ◌∷◌, ◌++◌, map, length, get_or, All, Contains, sym, ap, subst, ◌∙◌, inl, inr}
-use Rattle.std.proofs.lemmas.List.Elements.{Contains-append_right, Contains-get_or, All-contains}
+use Rattle.std.proofs.Common.{◌≡◌, ℕ, IsTrue, List, ◌∷◌, length, Contains, sym, ap, subst, ◌∙◌}
+use Rattle.std.proofs.lemmas.List.Elements.{Contains-append_right, All-contains}
 use Rattle.ranked_terms.specs.Names.{Symbol}
-use Rattle.trs_rules.specs.Rules.{RewriteRule, IsRule}
+use Rattle.trs_rules.specs.Rules.{RewriteRule}
 use Rattle.trs_rules.specs.declared.sigma.Pair.{Pair}
-use Rattle.ta_core.specs.TreeAutomaton.{TreeAutomaton, IsSound, trans_of}
-use Rattle.ta_core.specs.Runs.{Runs, RunsToFinal}
-use Rattle.ta_core.specs.Languages.{Language, Accepts}
+use Rattle.ta_core.specs.TreeAutomaton.{TreeAutomaton}
+use Rattle.ta_core.specs.Languages.{Accepts}
 use Rattle.ta_core.specs.SpecRules.{automaton_is_over}
 use Rattle.ta_core.specs.Closure.{Closed, IsClosedUnder, triples_from, IsFirstOpen}
 use Rattle.ta_core.specs.Acceptance.{Misses, IsContained, TransHolds, EpsHolds, FinalHolds}
-use Rattle.ta_core.specs.declared.trans.Trans.{Trans}
 use Rattle.list_laws.proofs.Members.{here}
 use Rattle.ta_core.specs.AcceptanceLaws.{AcceptedTermsAreOver}
 use Rattle.list_laws.proofs.Members.{at_place}
@@ -18,7 +16,7 @@ use Rattle.ta_core.specs.lemmas.Assignments.{closed_at_list}
 use Rattle.ta_core.specs.ClosureLaws.{TriplesAreAll}
 use Rattle.list_laws.specs.Listings.{IsFirst}
 use Rattle.ta_clean.specs.Meeting.{FinalsMeet, IsLeastMeeting}
-use Rattle.closure_check.specs.Answers.{IsFirstMissing, FailsFirst}
+use Rattle.closure_check.specs.Answers.{IsFirstMissing}
 use Rattle.closure_check.specs.declared.answer.Missing.{Missing}
 use Rattle.closure_check.specs.declared.answer.Missing.TheVariants as missing
 

@@ -1,6 +1,5 @@
 -- The least state at which an assignment is open.
-use Rattle.std.proofs.Common.{◌≡◌, ◌↔◌, ◌+◌, ◌<◌, ℕ, Bool, true, false, IsTrue, List, ◌∷◌, ◌++◌, get_or, length, map, take, drop, Option, Some, None, IfSome, IfNone, slice_get, All, Contains, refl, sym, ap, subst, ◌∙◌, true≢false}
-use Rattle.std.proofs.lemmas.List.{take-append-drop, drop_more}
+use Rattle.std.proofs.Common.{◌≡◌, ◌↔◌, ℕ, List, Option, Some, None, IfSome, IfNone, All, Contains, subst}
 use Rattle.std.proofs.lemmas.List.Elements.{All-map, All-weaker}
 use Rattle.ranked_terms.specs.Terms.{assigned}
 use Rattle.ranked_terms.specs.declared.term.Pattern.{Pattern}

@@ -1,15 +1,12 @@
 -- The first part of an automaton that another one doesn't contain.
-use Rattle.std.proofs.Common.{◌≡◌, ◌↔◌, ◌+◌, ◌<◌, ◌≤◌, ℕ, List, [], ◌∷◌, ◌++◌, map, length, get_or, take, drop, slice_index, set, zero, suc, refl, All, Contains, sym, ap, subst, ◌∙◌, arith}
+use Rattle.std.proofs.Common.{◌≡◌, ◌↔◌, ◌+◌, ◌<◌, ◌≤◌, ℕ, List, [], ◌∷◌, ◌++◌, map, length, get_or, take, drop, slice_index, set, zero, suc, All, Contains, sym, ap, subst, ◌∙◌, arith}
 use Rattle.std.proofs.lemmas.List.{take-append-drop, drop_more, length-take-le, take_more, take_more_set, map-append}
-use Rattle.std.proofs.lemmas.List.Elements.{All-contains}
-use Rattle.ranked_terms.specs.declared.term.Config.{Config, State}
-use Rattle.ta_core.specs.TreeAutomaton.{TreeAutomaton, IsSound, trans_of}
+use Rattle.ranked_terms.specs.declared.term.Config.{State}
+use Rattle.ta_core.specs.TreeAutomaton.{TreeAutomaton, IsSound}
 use Rattle.ta_core.specs.Runs.{Runs}
-use Rattle.ta_core.specs.Acceptance.{image, IsContained, TransHolds, EpsHolds, FinalHolds}
+use Rattle.ta_core.specs.Acceptance.{IsContained, TransHolds, EpsHolds, FinalHolds}
 use Rattle.ta_core.specs.lemmas.RunStates.{AreExact, exact_more}
-use Rattle.list_laws.specs.Listings.{IsFirst}
 use Rattle.closure_check.specs.Marking.{Marked}
-use Rattle.std.proofs.lemmas.List.{get_or_default}
 use Rattle.closure_check.specs.Answers.{FailsFirst, FailsFirstAt}
 use Rattle.closure_check.proofs.RunningSets.{lists, sizes}
 

@@ -1,14 +1,12 @@
 -- From the open pairs of one rule to those of a list of rules.
-use Rattle.std.proofs.Common.{◌≡◌, ℕ, zero, suc, ◌+◌, ◌<◌, ◌≤◌, Some, slice_get, List, [], ◌∷◌, ◌++◌, map, length, get_or, take, drop, All, refl, sym, ap, subst, ◌∙◌, append_assoc, append-nil, arith}
-use Rattle.std.specs.List.{flat_map}
-use Rattle.std.proofs.lemmas.List.{take_all, take_more, take-append-drop, drop_more, length-take-le}
-use Rattle.std.proofs.lemmas.List.Elements.{All-append, All-map, All-weaker, All-head, All-tail, All-nil}
+use Rattle.std.proofs.Common.{◌≡◌, ℕ, ◌+◌, ◌<◌, Some, slice_get, List, [], ◌∷◌, ◌++◌, map, length, get_or, take, drop, All, sym, ap, subst, ◌∙◌, append_assoc, append-nil, arith}
+use Rattle.std.proofs.lemmas.List.{take_more, take-append-drop, drop_more, length-take-le}
+use Rattle.std.proofs.lemmas.List.Elements.{All-append, All-map, All-weaker, All-head, All-tail}
 use Rattle.std.proofs.lemmas.Option.{slice_get-get_or}
 use Rattle.trs_rules.specs.Rules.{RewriteRule, IsRule}
 use Rattle.trs_rules.specs.declared.sigma.Pair.{Pair}
 use Rattle.ta_core.specs.TreeAutomaton.{TreeAutomaton, IsSound}
-use Rattle.ta_core.specs.Runs.{Runs}
-use Rattle.ta_core.specs.Closure.{Closed, IsOpen, IsSettled, OpenAmong, AreOpenPairs, assigned_by, assignments, triples_of_rule, triples_from, IsFirstOpen}
+use Rattle.ta_core.specs.Closure.{Closed, IsOpen, IsSettled, OpenAmong, assignments, triples_of_rule, triples_from, IsFirstOpen}
 use Rattle.ta_core.specs.ClosureLaws.{ClosedHasNoOpenPair}
 use Rattle.ta_core.specs.Closure.{pair_of}
 use Rattle.closure_check.specs.Searching.{Opens, Settles, OpensFirst, with_states, going_on}

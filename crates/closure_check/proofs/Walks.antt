@@ -9,7 +9,6 @@ use Rattle.std.proofs.lemmas.List.Elements.{All-contains, Contains-get_or}
 use Rattle.std.proofs.lemmas.Map.Keys.{below_from_sorted}
 use Rattle.list_laws.proofs.Members.{all_from_members}
 use Rattle.list_laws.proofs.Members.{is_member}
-use Rattle.list_laws.specs.Listings.{IsFirst}
 
 -- the list up to an element, which are all settled
 pub record Ends (S : ℕ → Type 0) (xs : List ℕ) (q : ℕ) : Type 0 where

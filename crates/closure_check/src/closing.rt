@@ -37,7 +37,7 @@ pub(crate) fn first_open(
 {
     // For the proof: an automaton without an open pair is closed.
     closed_automata_have_no_open_pair();
-    // Its contract says what holds of every automaton.
+    // For the proof: its contract says what holds of every automaton.
     let _ = automaton.states();
     let mut number = 0;
     for rule in rules {
@@ -75,7 +75,7 @@ fn first_open_from(
     ensures short { length states.new.items ≤ 16 }
     ensures sizes { map (λ (set : Marked). set.size) sets.new ≡ map (λ (set : Marked). set.size) sets.old }
 {
-    // Its contract says what holds of every automaton.
+    // For the proof: its contract says what holds of every automaton.
     let _ = automaton.states();
     if more == 0 {
         return first_open_in(sets, automaton, rule, states.as_slice());
@@ -124,18 +124,20 @@ fn first_open_in(
 
 /// The first state that is a member of the one set and not of the other. The one set is left in ascending order.
 fn first_apart(left: &mut Marks, right: &Marks, automaton: &Automaton) -> Option<u32>
-    ensures some { IfSome result (IsFirst (IsApart left.old.members right.now.members) (IsShared left.old.members right.now.members) automaton.now.states) }
+    ensures some { IfSome result (IsFirst (IsApart left.old.members right.now.members)
+        (IsShared left.old.members right.now.members) automaton.now.states) }
     ensures none { IfNone result (All (IsShared left.old.members right.now.members) automaton.now.states) }
     ensures size { left.new.size ≡ left.old.size }
 {
-    // Its contract says what holds of every automaton.
+    // For the proof: its contract says what holds of every automaton.
     let _ = automaton.states();
     left.sort();
     for state in left.as_slice() {
         if !has_state(automaton, *state) {
             continue;
         }
-        if !right.contains(*state) {
+        let shared = right.contains(*state);
+        if !shared {
             return Some(*state);
         }
     }

@@ -33,7 +33,11 @@ impl<'a> Model for Openings<'a> {
 
     ghost coded = { Prim.hlevel (codes, patterns.the_row.coded) };
 
-    ghost view = { λ o. record { setting = record { automaton = o.automaton.now; number = o.number; rule = o.rule.now }; limit = o.limit; pairs = o.pairs } };
+    ghost view = { λ o. record {
+      setting = record { automaton = o.automaton.now; number = o.number; rule = o.rule.now };
+      limit = o.limit;
+      pairs = o.pairs;
+    } };
 
     ghost invariant = { λ o. o.states.now ≡ o.automaton.now.states };
 }
@@ -50,7 +54,11 @@ impl<'a> Openings<'a> {
         pairs: Seq<Pair>,
     ) -> Openings<'a>
         requires { states.now ≡ automaton.now.states }
-        ensures { result ≡ record { setting = record { automaton = automaton.now; number = number; rule = rule.now }; limit = limit; pairs = pairs } }
+        ensures { result ≡ record {
+          setting = record { automaton = automaton.now; number = number; rule = rule.now };
+          limit = limit;
+          pairs = pairs;
+        } }
     {
         Openings {
             alloc,
@@ -131,7 +139,8 @@ fn add_pairs(
 /// The states that are no members of the set, in their order. The only error is running out of memory.
 fn outside(alloc: Global, states: &[u32], set: &StateSet) -> Result<Vec<u32>, AllocError>
     requires { IsStrictlySortedBy nat_cmp states.now }
-    ensures members { IfOk result (λ others. (q : ℕ) → Contains others.items q ↔ (Contains states.now q × (Contains set.now q → ⊥))) }
+    ensures members { IfOk result (λ others. (q : ℕ) →
+        Contains others.items q ↔ (Contains states.now q × (Contains set.now q → ⊥))) }
     ensures order { IfOk result (λ others. IsStrictlySortedBy nat_cmp others.items) }
 {
     let mut others = Vec::new(alloc);

@@ -46,7 +46,8 @@ pub fn open_pairs(
     requires { length rules.now < 2 ^ 32 }
     ensures all { IfOk result (λ pairs. AreOpenPairs automaton.now rules.now pairs) }
     ensures few { IfOk result (λ pairs. length pairs ≤ limit) }
-    ensures more { IsErrOf result PairError.More → (pairs : List Triple) × AreOpenPairs automaton.now rules.now pairs × (limit < length pairs) }
+    ensures more { IsErrOf result PairError.More →
+        (pairs : List Triple) × AreOpenPairs automaton.now rules.now pairs × (limit < length pairs) }
 {
     // For the proof: open triples in ascending order are the list of open pairs, and there is one.
     laws::open_pairs_are_listed();
@@ -70,8 +71,10 @@ fn with_pairs_of(
     pairs: Seq<Pair>,
 ) -> Result<Seq<Pair>, PairError>
     requires { states.now ≡ automaton.now.states }
-    ensures all { IfOk result (λ all. AddsAll (record { automaton = automaton.now; number = number; rule = rule.now }) limit pairs all) }
-    ensures more { IsErrOf result PairError.More → ExceedsWith (record { automaton = automaton.now; number = number; rule = rule.now }) limit pairs }
+    ensures all { IfOk result (λ all.
+        AddsAll (record { automaton = automaton.now; number = number; rule = rule.now }) limit pairs all) }
+    ensures more { IsErrOf result PairError.More →
+        ExceedsWith (record { automaton = automaton.now; number = number; rule = rule.now }) limit pairs }
 {
     let mut openings = Openings::new(alloc, automaton, states, number, rule, limit, pairs);
     let on = each_group(

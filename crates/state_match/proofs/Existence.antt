@@ -96,20 +96,22 @@ module _ (plain : Bool) (A : TreeAutomaton) (p : Pattern) (runs : (c : Config) �
 
   pub listed : IsStrictlySortedBy nat_cmp A.states → (ms : List Match) × IsListing match_order (IsMatch plain A p) ms
   listed sorted =
-      let all = assignments A.states (length (variables_of p)) in
-      (flat_map (λ σ. matches_of (group σ)) all, record {
-        ascends = of_all all (assignments_ascend A.states (length (variables_of p)) sorted);
-        exact = λ m. (
-          λ c.
-              let h = flat_had (λ σ. matches_of (group σ)) all m c in
-              let g = of_group (group h.0) m h.2 in
-              let a = had A.states (length (variables_of p)) h.0 h.1 in
-              subst (λ σ. MatchesAt plain A (variables_of p) p σ m.state) (sym g.0) (record { each_variable = a.0; are_states = a.1; runs = ((group_is h.0).exact m.state).0 g.1 }),
-          λ w.
-              flat_has (λ σ. matches_of (group σ)) all m.sigma m (has A.states (length (variables_of p)) m.sigma w.each_variable w.are_states)
-              (map_has (match_of m.sigma) (group m.sigma).states m.state (((group_is m.sigma).exact m.state).1 w.runs)),
-        );
-      })
+      let all = assignments A.states (length (variables_of p)) in (
+        flat_map (λ σ. matches_of (group σ)) all,
+        record {
+          ascends = of_all all (assignments_ascend A.states (length (variables_of p)) sorted);
+          exact = λ m. (
+            λ c.
+                let h = flat_had (λ σ. matches_of (group σ)) all m c in
+                let g = of_group (group h.0) m h.2 in
+                let a = had A.states (length (variables_of p)) h.0 h.1 in
+                subst (λ σ. MatchesAt plain A (variables_of p) p σ m.state) (sym g.0) (record { each_variable = a.0; are_states = a.1; runs = ((group_is h.0).exact m.state).0 g.1 }),
+            λ w.
+                flat_has (λ σ. matches_of (group σ)) all m.sigma m (has A.states (length (variables_of p)) m.sigma w.each_variable w.are_states)
+                (map_has (match_of m.sigma) (group m.sigma).states m.state (((group_is m.sigma).exact m.state).1 w.runs)),
+          );
+        },
+      )
 
 pub matches_are_listed : RunsAreListed → PlainRunsAreListed → MatchesAreListed
 matches_are_listed runs plain_runs true A p sorted = listed true A p (plain_runs A) sorted

@@ -261,7 +261,7 @@ first_is A B v p sym' args count wanted column back is long members exact = reco
       let as_many : length others ≡ length args = sym (length-map others g) ∙ (ap (λ (cs : List Config). length cs) both.1 ∙ length-map args g) in
       let enough : count ≡ length (c ∷ more) = long ∙ (sym as_many ∙ n) in
       let h = column_has A f q [] c more [] wanted column closed tt
-          (λ x m. members x (subst (λ k. IsNextAt A.trans sym' [] k wanted x) (sym enough) (subst (λ g. IsNextAt A.trans g [] (length (c ∷ more)) wanted x) symbol m))) want r in
+      (λ x m. members x (subst (λ k. IsNextAt A.trans sym' [] k wanted x) (sym enough) (subst (λ g. IsNextAt A.trans g [] (length (c ∷ more)) wanted x) symbol m))) want r in
       (h.0, in_back B column back exact h.0 h.1, h.2);
 }
 

@@ -20,7 +20,8 @@ pub fn assigned_states(
     states: &[u32],
 ) -> Result<StateSet, AllocError>
     requires { all.now ≡ automaton.now.states }
-    ensures { IfOk result (λ found. (q : ℕ) → Contains found q ↔ Runs automaton.now (assigned (state_in vars.now states.now) pattern.now) q) }
+    ensures { IfOk result (λ found. (q : ℕ) →
+        Contains found q ↔ Runs automaton.now (assigned (state_in vars.now states.now) pattern.now) q) }
 {
     if let Some(found) = value(alloc, automaton, all, vars, states, pattern)? {
         return Ok(found);

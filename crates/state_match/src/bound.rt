@@ -37,9 +37,19 @@ impl<'a> Model for Bound<'a> {
 
     ghost coded = { Prim.hlevel (codes, patterns.the_row.coded) };
 
-    ghost view = { λ b. record { plain = b.plain; automaton = b.automaton.now; vars = b.vars.now; pattern = b.pattern.now; bound = b.states.items } };
+    ghost view = { λ b. record {
+      plain = b.plain;
+      automaton = b.automaton.now;
+      vars = b.vars.now;
+      pattern = b.pattern.now;
+      bound = b.states.items;
+    } };
 
-    ghost invariant = { λ b. All (Contains b.automaton.now.states) b.states.items × RunsFor b.plain b.automaton.now b.runs.now × IsReverse b.runs.now b.reversed.now × (b.all.now ≡ b.runs.now.states) × IsFirst b.runs.now b.all.now b.pattern.now b.first.now };
+    ghost invariant = { λ b. All (Contains b.automaton.now.states) b.states.items
+        × RunsFor b.plain b.automaton.now b.runs.now
+        × IsReverse b.runs.now b.reversed.now
+        × (b.all.now ≡ b.runs.now.states)
+        × IsFirst b.runs.now b.all.now b.pattern.now b.first.now };
 }
 
 impl<'a> Bound<'a> {
@@ -59,7 +69,13 @@ impl<'a> Bound<'a> {
         requires reverse { IsReverse runs.now reversed.now }
         requires all { all.now ≡ runs.now.states }
         requires first { IsFirst runs.now all.now pattern.now first.now }
-        ensures { result ≡ record { plain = plain; automaton = automaton.now; vars = vars.now; pattern = pattern.now; bound = [] } }
+        ensures { result ≡ record {
+          plain = plain;
+          automaton = automaton.now;
+          vars = vars.now;
+          pattern = pattern.now;
+          bound = [];
+        } }
     {
         Bound {
             alloc,

@@ -53,9 +53,11 @@ pub(crate) fn collected(
     limit: u32,
 ) -> Result<Seq<Match>, MatchError>
     requires { length vars.now ≤ 16 }
-    ensures all { IfOk result (λ all. IsListing match_order (λ (m : Found). MatchesAt plain automaton.now vars.now pattern.now m.sigma m.state) all) }
+    ensures all { IfOk result (λ all.
+        IsListing match_order (λ (m : Found). MatchesAt plain automaton.now vars.now pattern.now m.sigma m.state) all) }
     ensures few { IfOk result (λ all. length all ≤ limit) }
-    ensures more { IsErrOf result MatchError.More → HasMoreThan limit (λ (m : Found). MatchesAt plain automaton.now vars.now pattern.now m.sigma m.state) }
+    ensures more { IsErrOf result MatchError.More →
+        HasMoreThan limit (λ (m : Found). MatchesAt plain automaton.now vars.now pattern.now m.sigma m.state) }
 {
     let mut collector = Collector {
         alloc,

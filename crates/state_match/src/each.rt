@@ -19,12 +19,14 @@ impl<'v, V: Visit> Groups for Each<'v, V> {
     ghost use Rattle.state_match.specs.Collected.{matches_of};
     ghost use Rattle.state_match.specs.declared.lists.Match.{Match as Found};
 
-    ghost took = { λ u g v. (v.visitor.ghost_name ≡ u.visitor.ghost_name) × GoneThrough V.took u.visitor.now (matches_of g) v.visitor.now };
+    ghost took = { λ u g v. (v.visitor.ghost_name ≡ u.visitor.ghost_name)
+        × GoneThrough V.took u.visitor.now (matches_of g) v.visitor.now };
 
     ghost ended = { λ u g v. ⊥ };
 
     ghost broke = { λ u g v. (v.visitor.ghost_name ≡ u.visitor.ghost_name)
-        × ((first : List Found) × (rest : List Found) × (matches_of g ≡ first ++ rest) × GoneThrough V.took u.visitor.now first v.visitor.now) };
+        × ((first : List Found) × (rest : List Found) × (matches_of g ≡ first ++ rest)
+        × GoneThrough V.took u.visitor.now first v.visitor.now) };
 
     fn take(&mut self, assignment: &[u32], states: &[u32]) -> Result<bool, AllocError> {
         for state in states {

@@ -39,7 +39,8 @@ pub trait Groups {
 
 /// Hands the assignments with which a pattern runs to some state to the visitor, in order, each with all these states, and
 /// says whether the visitor took them all. The assignments are lists of the states of `vars`, of which there are at most 16,
-/// and which may have more variables than the pattern. When memory runs out, which is the only error, the visitor has taken the first of them.
+/// and which may have more variables than the pattern. When memory runs out, which is the only error, the visitor
+/// has taken the first of them.
 pub fn each_group<V: Groups>(
     alloc: Global,
     automaton: &Automaton,
@@ -49,8 +50,10 @@ pub fn each_group<V: Groups>(
     visitor: &mut V,
 ) -> Result<bool, AllocError>
     requires { length vars.now ≤ 16 }
-    ensures whole { IfOk result (λ on. IsTrue on → TookAll V.took (MatchesAt plain automaton.now vars.now pattern.now) [] visitor.old visitor.new) }
-    ensures ended { IfOk result (λ on. IsTrue (not on) → TookUpTo V.took V.ended (MatchesAt plain automaton.now vars.now pattern.now) [] visitor.old visitor.new) }
+    ensures whole { IfOk result (λ on. IsTrue on →
+        TookAll V.took (MatchesAt plain automaton.now vars.now pattern.now) [] visitor.old visitor.new) }
+    ensures ended { IfOk result (λ on. IsTrue (not on) →
+        TookUpTo V.took V.ended (MatchesAt plain automaton.now vars.now pattern.now) [] visitor.old visitor.new) }
     ensures err { OnErr result (TookFirst V.took (MatchesAt plain automaton.now vars.now pattern.now) [] visitor.old visitor.new
         ⊎ TookUpTo V.took V.broke (MatchesAt plain automaton.now vars.now pattern.now) [] visitor.old visitor.new) }
 {

@@ -38,7 +38,8 @@ pub(crate) fn value(
     pattern: &Pattern,
 ) -> Result<Option<StateSet>, AllocError>
     requires { all.now ≡ automaton.now.states }
-    ensures { IfOk result (λ states. IfSome states (λ states. (rest : List ℕ) (q : ℕ) → Contains states q ↔ Runs automaton.now (assigned (state_in vars.now (bound.now ++ rest)) pattern.now) q)) }
+    ensures { IfOk result (λ states. IfSome states (λ states. (rest : List ℕ) (q : ℕ) →
+        Contains states q ↔ Runs automaton.now (assigned (state_in vars.now (bound.now ++ rest)) pattern.now) q)) }
 {
     match pattern {
         Pattern::Var(variable) => {
@@ -77,7 +78,8 @@ pub(crate) fn narrow(
 ) -> Result<Option<StateSet>, AllocError>
     requires all { all.now ≡ automaton.now.states }
     requires reverse { IsReverse automaton.now reversed.now }
-    ensures { IfOk result (λ states. IfSome states (λ states. IsClosedBack automaton.now wanted.now → (s : ℕ) (rest : List ℕ) (q : ℕ) → Contains wanted.now q →
+    ensures { IfOk result (λ states. IfSome states (λ states. IsClosedBack automaton.now wanted.now →
+        (s : ℕ) (rest : List ℕ) (q : ℕ) → Contains wanted.now q →
         Runs automaton.now (assigned (state_in vars.now (bound.now ++ s ∷ rest)) pattern.now) q → Contains states s)) }
 {
     match pattern {
@@ -122,16 +124,17 @@ pub(crate) fn narrow_whole(
     requires all { all.now ≡ automaton.now.states }
     requires reverse { IsReverse automaton.now reversed.now }
     requires first { IsFirst automaton.now all.now pattern.now first.now }
-    ensures { IfOk result (λ states. IfSome states (λ states. IsClosedBack automaton.now all.now → (s : ℕ) (rest : List ℕ) (q : ℕ) → Contains all.now q →
+    ensures { IfOk result (λ states. IfSome states (λ states. IsClosedBack automaton.now all.now →
+        (s : ℕ) (rest : List ℕ) (q : ℕ) → Contains all.now q →
         Runs automaton.now (assigned (state_in vars.now (bound.now ++ s ∷ rest)) pattern.now) q → Contains states s)) }
 {
     if let Pattern::App(_, args) = pattern {
         let args = args.as_slice();
         if !args.is_empty() {
             let arg = &args[0];
-            if let Some(states) =
-                narrow(alloc, automaton, reversed, all, vars, bound, first, arg)?
-            {
+            if let Some(states) = narrow(
+                alloc, automaton, reversed, all, vars, bound, first, arg,
+            )? {
                 return Ok(Some(states));
             }
         }
@@ -157,9 +160,7 @@ pub(crate) fn first_wanted(
         Pattern::App(sym, args) => {
             let sets = Vec::new(alloc);
             let count = args.as_slice().len();
-            let column = column(
-                alloc, automaton, reversed, all, *sym, &sets, count, all,
-            )?;
+            let column = column(alloc, automaton, reversed, all, *sym, &sets, count, all)?;
             reversed.closure_of(&column)
         }
     }
@@ -181,7 +182,8 @@ fn column(
     requires all { all.now ≡ automaton.now.states }
     requires reverse { IsReverse automaton.now reversed.now }
     requires count { arity + 1 < 2 ^ 64 }
-    ensures next { IfOk result (λ states. (x : ℕ) → IsNextAt automaton.now.trans sym sets.now arity wanted.now x → Contains states x) }
+    ensures next { IfOk result (λ states. (x : ℕ) →
+        IsNextAt automaton.now.trans sym sets.now arity wanted.now x → Contains states x) }
     ensures inside { IfOk result (All (Contains reversed.now.states)) }
 {
     if !sets.is_empty() || automaton.trans_with(sym).len() <= wanted.as_slice().len() {

@@ -104,8 +104,11 @@ pub fn each_match<V: Visit>(
     visitor: &mut V,
 ) -> Result<(), AllocError>
     requires { length (variables_of pattern.now) ≤ 16 }
-    ensures ok { OnOk result ((all : List Found) × AreMatches plain automaton.now pattern.now all × GoneThrough V.took visitor.old all visitor.new) }
-    ensures err { OnErr result ((first : List Found) × AreFirstMatches plain automaton.now pattern.now first × GoneThrough V.took visitor.old first visitor.new) }
+    ensures ok { OnOk result (
+        (all : List Found) × AreMatches plain automaton.now pattern.now all × GoneThrough V.took visitor.old all visitor.new) }
+    ensures err { OnErr result (
+        (first : List Found) × AreFirstMatches plain automaton.now pattern.now first
+        × GoneThrough V.took visitor.old first visitor.new) }
 {
     let Ok(vars) = Variables::of(pattern) else {
         unreachable!();

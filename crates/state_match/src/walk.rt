@@ -1,5 +1,6 @@
 //! The walk over assignments.
-ghost use Rattle.std.specs.Prelude.{◌≡◌, ◌↔◌, ◌⊎◌, ◌+◌, ◌≤◌, ℕ, List, [], ◌∷◌, length, Contains, IsTrue, not, IfOk, IfSome, IfNone, OnOk, OnErr};
+ghost use Rattle.std.specs.Prelude.{◌≡◌, ◌↔◌, ◌⊎◌, ◌+◌, ◌≤◌, ℕ, List, [], ◌∷◌, length, Contains};
+ghost use Rattle.std.specs.Prelude.{IsTrue, not, IfOk, IfSome, IfNone, OnOk, OnErr};
 ghost use Rattle.state_match.specs.Groups.{TookAll, TookFirst, TookUpTo};
 
 use crate::groups::Groups;
@@ -17,9 +18,11 @@ pub(crate) trait Narrowed: Drop {
     fn candidates(&self) -> Result<StateSet, AllocError>
         ensures { IfOk result (λ all. (s : ℕ) (rest : List ℕ) (q : ℕ) → matches self.now (s ∷ rest) q → Contains all s) };
 
-    /// What is left where the next variable stands for the state, or none where nothing is. The only error is running out of memory.
+    /// What is left where the next variable stands for the state, or none where nothing is. The only error is running out of
+    /// memory.
     fn with(&self, state: u32) -> Result<Option<Self>, AllocError>
-        ensures some { IfOk result (λ next. IfSome next (λ next. (rest : List ℕ) (q : ℕ) → matches next rest q ↔ matches self.now (state ∷ rest) q)) }
+        ensures some { IfOk result (λ next. IfSome next (λ next.
+            (rest : List ℕ) (q : ℕ) → matches next rest q ↔ matches self.now (state ∷ rest) q)) }
         ensures none { IfOk result (λ next. IfNone next ((rest : List ℕ) (q : ℕ) → matches self.now (state ∷ rest) q → ⊥)) };
 
     /// The states to which the pattern runs, where no variable is left. The only error is running out of memory.
@@ -39,8 +42,10 @@ pub(crate) fn walk<N: Narrowed, V: Groups>(
     requires long { (σ : List ℕ) (q : ℕ) → N.matches rest.now σ q → length σ ≡ more }
     requires short { length assignment.old.items + more ≤ 16 }
     ensures kept { OnOk result (assignment.new.items ≡ assignment.old.items) }
-    ensures whole { IfOk result (λ on. IsTrue on → TookAll V.took (N.matches rest.now) assignment.old.items visitor.old visitor.new) }
-    ensures ended { IfOk result (λ on. IsTrue (not on) → TookUpTo V.took V.ended (N.matches rest.now) assignment.old.items visitor.old visitor.new) }
+    ensures whole { IfOk result (λ on. IsTrue on →
+        TookAll V.took (N.matches rest.now) assignment.old.items visitor.old visitor.new) }
+    ensures ended { IfOk result (λ on. IsTrue (not on) →
+        TookUpTo V.took V.ended (N.matches rest.now) assignment.old.items visitor.old visitor.new) }
     ensures err { OnErr result (TookFirst V.took (N.matches rest.now) assignment.old.items visitor.old visitor.new
         ⊎ TookUpTo V.took V.broke (N.matches rest.now) assignment.old.items visitor.old visitor.new) }
 {

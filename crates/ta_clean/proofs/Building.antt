@@ -1,22 +1,19 @@
 -- Terms that are built from their arguments, and the sizes that they have.
-use Rattle.std.proofs.Common.{◌≡◌, ◌↔◌, ⊎_elim, ℕ, zero, suc, ◌+◌, ◌<◌, ◌≤◌, List, [], ◌∷◌, ◌++◌, length, get_or, take, map, sum, zip, Some, slice_get, All, Contains, refl, sym, ap, subst, ◌∙◌, arith}
+use Rattle.std.proofs.Common.{◌≡◌, ◌↔◌, ⊎_elim, ℕ, zero, suc, ◌+◌, ◌<◌, ◌≤◌, List, [], ◌∷◌, ◌++◌, length, get_or, take, map, sum, zip, Some, slice_get, Contains, refl, sym, ap, subst, ◌∙◌, arith}
 use Rattle.std.specs.List.{AllZip}
 use Rattle.std.proofs.lemmas.List.{take_more, take_all, map-append, length-take-le, get_or_default}
-use Rattle.std.proofs.lemmas.List.Elements.{All-contains, Contains-get_or}
+use Rattle.std.proofs.lemmas.List.Elements.{All-contains}
 use Rattle.std.proofs.lemmas.Bool.{cases_lt}
 use Rattle.std.proofs.lemmas.Option.{slice_get_within, slice_get-get_or}
 use Rattle.std.proofs.lemmas.Slice.Zip.{get_or-zip, length-zip}
 use Rattle.ranked_terms.specs.Terms.{node, size_of, config_of}
 use Rattle.ranked_terms.specs.declared.term.Term.{Term}
-use Rattle.ranked_terms.specs.declared.term.Config.{Config}
 use Rattle.ranked_terms.specs.lemmas.TermLaws.{config_node, size_node}
 use Rattle.ta_core.specs.TreeAutomaton.{TreeAutomaton, IsSound, IsTransOf, trans_of}
 use Rattle.ta_core.specs.declared.trans.Trans.{Trans}
-use Rattle.ta_core.specs.Runs.{Runs, Reaches}
-use Rattle.ta_core.specs.Languages.{Accepts}
-use Rattle.ta_core.specs.lemmas.RunsLaws.{reached, all_from_zip, run_ends}
-use Rattle.ta_core.specs.Meeting.{Meets}
-use Rattle.ta_clean.specs.Meeting.{IsCommon, FinalsMeet, IsLeastMeeting}
+use Rattle.ta_core.specs.Runs.{Runs}
+use Rattle.ta_core.specs.lemmas.RunsLaws.{reached, all_from_zip}
+use Rattle.ta_clean.specs.Meeting.{IsCommon, FinalsMeet}
 use Rattle.ta_clean.specs.Least.{Witnesses, IsLarge, IsSmallest}
 use Rattle.ta_clean.specs.Products.{TwoAutomata}
 use Rattle.ta_clean.specs.Sizes.{Sizing, IsPairOf, HasSizes, IsMadeBy, IsTermOf, IsLeastFinal, AreSettled, made_at, size_at, sum_at}

@@ -1,5 +1,5 @@
 -- The pairs of states to which one ground term runs, as they are found.
-use Rattle.std.proofs.Common.{◌≡◌, ◌↔◌, ◌⊎◌, ℕ, suc, ◌+◌, ◌<◌, ◌≤◌, ◌==◌, Bool, true, false, List, [], ◌∷◌, ◌++◌, length, get_or, take, map, zip, Some, slice_get, All, Contains, refl, sym, ap, subst, ◌∙◌, inl, inr, ⊎_elim, true≢false, arith}
+use Rattle.std.proofs.Common.{◌≡◌, ◌↔◌, ◌⊎◌, ℕ, suc, ◌+◌, ◌<◌, ◌≤◌, ◌==◌, Bool, false, List, [], ◌∷◌, ◌++◌, length, get_or, take, map, zip, Some, slice_get, All, Contains, refl, sym, ap, subst, ◌∙◌, inl, inr, ⊎_elim, true≢false, arith}
 use Rattle.std.specs.List.{AllZip, AllByRecursion}
 use Rattle.std.proofs.lemmas.List.{take_more, take_all, get_or_default}
 use Rattle.std.proofs.lemmas.List.Elements.{All-nil, All-cons, All-head, All-tail, All-weaker, All-contains, Contains-push_cases, Contains-get_or}
@@ -18,7 +18,6 @@ use Rattle.ta_clean.specs.Tables.{Table, IsIn, IsMarked, IsTaken, Keeps, TakesOn
 use Rattle.ta_clean.specs.Products.{TwoAutomata, HasTable, AllMeet, AreAll, StepsTo, Enters, EntersBy, EntersAt}
 use Rattle.ta_clean.specs.Uses.{IsUseOf, AreUsesOf}
 use Rattle.ta_clean.specs.declared.meeting.uses.Use.{Use}
-use Rattle.ta_clean.specs.declared.meeting.grid.Mark.TheVariants.{Unmarked, Taken}
 use Rattle.ta_clean.proofs.UseLists.{use_of, same_some, used_sym}
 
 -- the item that a loop is at

@@ -1,5 +1,5 @@
 -- What one lowering does for two transitions, or for an epsilon transition.
-use Rattle.std.proofs.Common.{◌≡◌, ℕ, ◌+◌, ◌<◌, ◌≤◌, Bool, true, false, length, get_or, Some, slice_get, List, Contains, sym, ap, subst, ◌∙◌, ⊎_elim, arith}
+use Rattle.std.proofs.Common.{◌≡◌, ℕ, ◌+◌, ◌<◌, ◌≤◌, Bool, true, false, length, Some, slice_get, List, Contains, subst, ⊎_elim, arith}
 use Rattle.std.proofs.lemmas.Bool.{cases_lt}
 use Rattle.std.proofs.lemmas.List.Elements.{All-contains, Contains-get_or}
 use Rattle.std.proofs.lemmas.Option.{slice_get_within, get_or_from_slice_get}
@@ -7,7 +7,7 @@ use Rattle.ta_core.specs.TreeAutomaton.{TreeAutomaton, IsSound, IsTransOf, IsEps
 use Rattle.ta_core.specs.declared.trans.Trans.{Trans}
 use Rattle.ta_core.specs.Runs.{Reaches}
 use Rattle.ta_clean.specs.Products.{TwoAutomata}
-use Rattle.ta_clean.specs.Sizes.{Sizing, IsSizing, IsPairOf, IsLowered, IsMadeBy, AreMade, HasSizes, Passes, SettledBy, made_at, size_at, sum_at}
+use Rattle.ta_clean.specs.Sizes.{Sizing, IsSizing, IsPairOf, IsLowered, AreMade, HasSizes, Passes, SettledBy, made_at, size_at, sum_at}
 use Rattle.ta_clean.specs.declared.sizes.Made.{Made}
 use Rattle.ta_clean.proofs.Sizing.{capped_at, lower_passes}
 

@@ -1,20 +1,19 @@
 -- Numbers for pairs of states that fall until they are the least sizes of terms.
-use Rattle.std.proofs.Common.{◌≡◌, ◌⊎◌, ℕ, zero, suc, ◌+◌, ◌*◌, ◌<◌, ◌≤◌, ◌||◌, Bool, true, false, true≢false, List, [], ◌∷◌, ◌++◌, length, get_or, set, replicate, take, map, sum, sum_by, zip, Some, slice_get, All, Contains, refl, sym, ap, subst, ◌∙◌, inl, inr, ⊎_elim, arith}
+use Rattle.std.proofs.Common.{◌≡◌, ◌⊎◌, ℕ, suc, ◌+◌, ◌*◌, ◌<◌, ◌≤◌, ◌||◌, Bool, true, false, true≢false, List, [], ◌∷◌, ◌++◌, length, get_or, set, replicate, take, map, sum, zip, All, Contains, refl, sym, ap, subst, ◌∙◌, inl, inr, ⊎_elim, arith}
 use Rattle.std.specs.List.{AllZip, AllByRecursion}
 use Rattle.std.proofs.lemmas.Bool.{cases_lt}
 use Rattle.std.proofs.lemmas.Nat.{mul-add-lt}
 use Rattle.std.proofs.lemmas.List.{get_or-set_same, get_or-set_other, get_or_past, get_or-replicate, length-set, length-replicate, take_more, take_all}
-use Rattle.std.proofs.lemmas.List.Elements.{All-set, All-replicate, All-contains, Contains-get_or, Contains-push_cases}
+use Rattle.std.proofs.lemmas.List.Elements.{All-set, All-replicate, All-contains, Contains-push_cases}
 use Rattle.std.proofs.lemmas.List.Sums.{sum_by-set, sum_by-cons}
 use Rattle.ranked_terms.specs.Terms.{node, size_of, config_of}
 use Rattle.ranked_terms.specs.declared.term.Term.{Term}
 use Rattle.ranked_terms.specs.lemmas.TermLaws.{config_node, size_node, term_induction}
 use Rattle.ta_core.specs.TreeAutomaton.{IsSound, IsTransOf, trans_of}
-use Rattle.ta_core.specs.declared.trans.Trans.{Trans}
-use Rattle.ta_core.specs.Runs.{Runs, RunsAll, Reaches}
+use Rattle.ta_core.specs.Runs.{Runs, Reaches}
 use Rattle.ta_core.specs.lemmas.RunsLaws.{run_of_app, run_ends, zip_from_all}
 use Rattle.ta_clean.specs.Products.{TwoAutomata}
-use Rattle.ta_clean.specs.Sizes.{Sizing, IsSizing, IsUnmade, IsPairOf, IsLowered, IsMadeBy, AreMade, AreSettled, SettledByFirst, SettledBySecond, Passes, HasSizes, unmade, made_at, size_at, sum_at, total}
+use Rattle.ta_clean.specs.Sizes.{Sizing, IsSizing, IsUnmade, IsPairOf, IsLowered, IsMadeBy, AreMade, AreSettled, Passes, HasSizes, unmade, made_at, size_at, sum_at, total}
 use Rattle.ta_clean.specs.declared.sizes.Made.{Made}
 use Rattle.ta_clean.proofs.TableMarks.{same_place, pair_same}
 

@@ -1,6 +1,6 @@
 -- The pairs of states that marked pairs lead on to, by the transitions of both automata (TATA, section 1.3). These serve private contracts alone,
 -- but for `HasRoom`.
-use Rattle.std.specs.Prelude.{◌≡◌, ℕ, ◌<◌, ◌≤◌, List, length, zip, Some, slice_get, All, Contains}
+use Rattle.std.specs.Prelude.{◌≡◌, ℕ, ◌≤◌, List, length, zip, Some, slice_get, All, Contains}
 use Rattle.ta_core.specs.TreeAutomaton.{TreeAutomaton}
 use Rattle.ta_core.specs.declared.trans.Trans.{Trans}
 use Rattle.ta_core.specs.Meeting.{Meets}

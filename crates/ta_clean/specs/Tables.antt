@@ -1,7 +1,5 @@
 -- Pairs of states that are marked in a table of two bounds, row by row.
 use Rattle.std.specs.Prelude.{◌≡◌, ◌≢◌, ◌⊎◌, ℕ, ◌+◌, ◌*◌, ◌<◌, ◌≤◌, List, get_or, length, sum_by}
-use Rattle.ta_core.specs.TreeAutomaton.{TreeAutomaton}
-use Rattle.ta_core.specs.declared.trans.Trans.{Trans}
 use Rattle.ta_clean.specs.declared.meeting.grid.Mark.{Mark}
 use Rattle.ta_clean.specs.declared.meeting.grid.Mark.TheVariants.{Unmarked, Waiting, Taken}
 

@@ -105,7 +105,7 @@ impl<'a> Both<'a> {
         requires made { AreMade self.now sizes.old }
         ensures { Passes self.now sizes.old sizes.new result (SettledBy left.now right.now) }
     {
-        // Their contracts say what holds of every automaton.
+        // For the proof: their contracts say what holds of every automaton.
         let _ = self.first.next();
         let _ = self.second.next();
         let firsts = left.args.as_slice();
@@ -147,7 +147,7 @@ impl<'a> Both<'a> {
         requires made { AreMade self.now sizes.old }
         ensures { Passes self.now sizes.old sizes.new result (SettledByFirst self.now (from, to)) }
     {
-        // Its contract says what holds of every automaton.
+        // For the proof: its contract says what holds of every automaton.
         let _ = self.first.next();
         let mut fell = false;
         for state in self.second.states() {
@@ -180,7 +180,7 @@ impl<'a> Both<'a> {
         requires made { AreMade self.now sizes.old }
         ensures { Passes self.now sizes.old sizes.new result (SettledBySecond self.now (from, to)) }
     {
-        // Its contract says what holds of every automaton.
+        // For the proof: its contract says what holds of every automaton.
         let _ = self.second.next();
         let mut fell = false;
         for state in self.first.states() {
@@ -239,7 +239,7 @@ impl<'a> Both<'a> {
         requires small { size_at sizes.now (first, second) ≤ 1024 }
         ensures { IfOk result (IsTermOf self.now (first, second) (size_at sizes.now (first, second))) }
     {
-        // Their contracts say what holds of every automaton.
+        // For the proof: their contracts say what holds of every automaton.
         let _ = self.first.next();
         let _ = self.second.next();
         let made = sizes.get(first, second);

@@ -1,5 +1,1 @@
-pub mod Closing
-pub mod MarkedPairs
-pub mod UseLists
-pub mod CommonTerms
 pub mod Verdicts

@@ -1,5 +1,5 @@
 -- What the verdicts of `run` rest on.
-use Rattle.std.proofs.Common.{◌≡◌, ◌≢◌, ℕ, ◌+◌, ◌≤◌, ◌<◌, List, [], ◌∷◌, ◌++◌, Option, Some, None, IsTrue, Bool, Result, Ok, Err, IfOk, ◌↔◌, length, append-nil, length-append, arith, sym, ap, ◌∙◌, subst, inl, refl, codes, string_bytes}
+use Rattle.std.proofs.Common.{◌≡◌, ℕ, ◌+◌, ◌≤◌, ◌<◌, List, [], ◌∷◌, ◌++◌, Option, Some, None, Result, Ok, Err, IfOk, length, append-nil, length-append, arith, sym, ap, ◌∙◌, subst, inl, refl, string_bytes}
 use Rattle.std.specs.List.{All, AllZip, range_with_len}
 use Rattle.std.specs.Prelude.{String}
 use Rattle.std.specs.Global.{Global}
@@ -11,18 +11,15 @@ use Rattle.tim_io.specs.declared.whole.ReadError.TheVariants as error
 use Rattle.tim_io.specs.Whole.{Reads, TookAtMost, TookJust}
 use Rattle.trs_rules.specs.Rules.{RewriteRule, IsRule}
 use Rattle.ta_core.specs.TreeAutomaton.{IsSound}
-use Rattle.ta_core.specs.SpecRules.{automaton_is_over}
-use Rattle.ta_core.specs.Closure.{Closed}
-use Rattle.ta_core.specs.AcceptanceLaws.{ContainsItself, AcceptedTermsAreOver, AcceptedIsSafe}
+use Rattle.ta_core.specs.AcceptanceLaws.{AcceptedIsSafe}
 use Rattle.ta_core.specs.ClosureLaws.{ClosedAcceptsReached}
 use Rattle.ta_core.specs.declared.spec.Spec.{Spec}
-use Rattle.ta_core.specs.Meeting.{HaveNoCommonTerm}
 use Rattle.top_call.specs.Words.{file_of}
 use Rattle.spec_text.specs.Source.{RuleDeclaration}
 use Rattle.spec_text.specs.Naming.{Names}
 use Rattle.spec_text.specs.SpecText.{IsRuleFrom, SpecText}
 use Rattle.spec_text.specs.Laws.{OneSpec}
-use Rattle.top_call.specs.Output.{Text, SettlesItself, IsSafe, IsNoSpec, Decides, Judges, OfFile, Says, Answers, limit, line}
+use Rattle.top_call.specs.Output.{Text, SettlesItself, IsSafe, IsNoSpec, Decides, Judges, OfFile, Says, Answers, limit}
 use Rattle.top_call.specs.declared.status.Status.{Status}
 use Rattle.top_call.specs.declared.status.Status.TheVariants.{Unreachable, Undecided, BadWords, BadSpec, TooLong, ReadFault, WriteFault, Memory}
 
@@ -32,25 +29,6 @@ rules_are names [] [] zip = All-nil IsRule
 rules_are names (d ∷ ds) (rule ∷ rules) zip = All-cons IsRule rule rules zip.0.is_rule (rules_are names ds rules zip.1)
 rules_are names [] (rule ∷ rules) zip = absurd zip
 rules_are names (d ∷ ds) [] zip = absurd zip
-
--- where the initial automaton is closed and misses the forbidden language, it settles the question
-pub settled_by : ContainsItself → (spec : Spec) → IsSound spec.initial → Closed spec.initial spec.rules → HaveNoCommonTerm spec.initial spec.forbidden → SettlesItself spec
-settled_by itself spec sound closed misses =
-    record { contained = itself spec.initial sound; closed = closed; misses = λ t one other. misses t one.accepted other.accepted }
-
--- a test of closure is a test of this, where the initial automaton misses the forbidden language
-pub settles_by_both : ContainsItself → (spec : Spec) → IsSound spec.initial → HaveNoCommonTerm spec.initial spec.forbidden → (rules : List RewriteRule) → rules ≡ spec.rules → (result : Result Bool AllocError) → IfOk result (λ yes. IsTrue yes ↔ Closed spec.initial rules) → IfOk result (λ yes. IsTrue yes ↔ SettlesItself spec)
-settles_by_both itself spec sound misses rules are (Ok answer) exact = (
-  λ t. settled_by itself spec sound (subst (Closed spec.initial) are (exact.0 t)) misses,
-  λ settles. exact.1 (subst (Closed spec.initial) (sym are) settles.closed),
-)
-settles_by_both itself spec sound misses rules are (Err e) exact = tt
-
--- where it doesn't miss the forbidden language, it settles nothing
-pub meets_unsettled : AcceptedTermsAreOver → (spec : Spec) → IsTrue (automaton_is_over spec.signature spec.initial) → (HaveNoCommonTerm spec.initial spec.forbidden → ⊥) → SettlesItself spec → ⊥
-meets_unsettled are_over spec over meets settles = meets (λ t one other.
-    let is_over = are_over spec.signature spec.initial over t one in
-    settles.misses t (record { over = is_over; accepted = one }) (record { over = is_over; accepted = other }))
 
 module _ (reached : ClosedAcceptsReached) (safe : AcceptedIsSafe) where
   -- where the initial automaton settles the question, it accepts what is reachable, and no such term is forbidden

@@ -4,10 +4,8 @@
 //! output and calls it; other crates call it over files and outputs in memory.
 #![tactic(auto)]
 
-mod closure;
 mod fault_line;
 pub mod laws;
-mod missing;
 pub mod run;
 pub mod status;
 pub mod words;

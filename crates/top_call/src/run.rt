@@ -8,17 +8,13 @@ ghost use Rattle.ta_core.specs.TreeAutomaton.{IsSound};
 ghost use Rattle.top_call.specs.Words.{file_of};
 ghost use Rattle.top_call.specs.Output.{SettlesItself, limit, line, Decides, Judges, Says, Ran, Answers};
 
-use crate::closure::is_closed;
 use crate::fault_line::fault_line;
-use crate::missing::have_no_common_term;
 use crate::status::Status;
 use crate::words::file_word;
+use closure_check::{Answer, Room, check};
 use std::alloc::{AllocError, Global};
-use ta_core::Spec;
-use ta_core::laws::{
-    accepted_automata_are_safe, accepted_terms_are_over, closed_automata_accept_what_is_reached,
-    contained_automata_keep_runs,
-};
+use ta_core::laws::{accepted_automata_are_safe, closed_automata_accept_what_is_reached};
+use ta_core::{Map, Spec};
 use tim_io::{ReadError, Shelf, Sink, read_all, write_all};
 use timbuk_reader::{SpecError, no_text_has_two_specs, read_spec};
 
@@ -29,18 +25,17 @@ const MAX_SPEC: usize = 1048576;
 const USAGE: &str =
     "usage: timbuk complete FILE [OPTIONS] | check SPEC CERT | ta OP FILE [--limit N] | browse SPEC SCRIPT | sample N\n";
 
-/// Whether the initial automaton settles the question as it stands: it has no term in common with the forbidden automaton,
-/// which is looked at first, since it takes less time, and it is closed under the rules. The only error is running out of memory.
+/// Whether the initial automaton settles the question as it stands, with the map that moves no state: it is closed under the
+/// rules and has no term in common with the forbidden automaton. The only error is running out of memory.
 fn settles_itself(alloc: Global, spec: &Spec) -> Result<bool, AllocError>
     ensures { IfOk result (λ yes. IsTrue yes ↔ SettlesItself spec.now) }
 {
-    // For the proof: what the initial automaton accepts is over the signature, and it contains itself.
-    accepted_terms_are_over();
-    contained_automata_keep_runs();
-    if !have_no_common_term(alloc, &spec.initial, &spec.forbidden)? {
-        return Ok(false);
+    let unmoved = Map::from_slice(alloc, spec.initial.states())?;
+    let mut room = Room::new(alloc, spec, &spec.initial)?;
+    match check(&mut room, spec, &spec.initial, &unmoved) {
+        Answer::Yes => Ok(true),
+        _ => Ok(false),
     }
-    is_closed(alloc, &spec.initial, spec.rules.as_slice())
 }
 
 /// The verdict on a specification, with its line: `Unreachable` exactly where its initial automaton is closed under its

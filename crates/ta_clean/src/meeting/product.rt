@@ -190,7 +190,7 @@ impl<'a> Product<'a> {
         ensures kept { Keeps grid.old grid.new }
         ensures marked { (next : ℕ × ℕ) → Enters self.now (IsMarked grid.old) left.now right.now next → IsMarked grid.new next }
     {
-        // Their contracts say what holds of every automaton.
+        // For the proof: their contracts say what holds of every automaton.
         let _ = self.first.next();
         let _ = self.second.next();
         if are_marked(grid, left.args.as_slice(), right.args.as_slice()) {

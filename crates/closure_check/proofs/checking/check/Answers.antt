@@ -1,6 +1,5 @@
-use Rattle.std.proofs.Common.{◌≡◌, ℕ, refl, subst, All}
+use Rattle.std.proofs.Common.{refl, subst}
 use Rattle.ta_core.specs.Closure.{Closed, IsFirstOpen}
-use Rattle.ta_core.specs.Acceptance.{IsAccepted}
 use Rattle.closure_check.proofs.Accepting.{none_missing, none_open, none_meet, misses_by}
 use Rattle.closure_check.proofs.checking.check.Goals as goal
 

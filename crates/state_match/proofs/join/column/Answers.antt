@@ -1,4 +1,4 @@
-use Rattle.std.proofs.Common.{◌≡◌, ◌↔◌, ◌==◌, ◌+◌, ℕ, List, [], ◌∷◌, ◌++◌, length, true, sym, ap, subst, ◌∙◌, Contains, All}
+use Rattle.std.proofs.Common.{◌+◌, ℕ, List, [], ◌∷◌, ◌++◌, sym, ap, subst, ◌∙◌, Contains, All}
 use Rattle.std.proofs.lemmas.Result.{IfOk-weaker}
 use Rattle.state_match.specs.Rows.{IsNextAt}
 use Rattle.state_match.proofs.JoinLaws.{next_inside, inside_reverse, next_turned, no_sets}

@@ -1,4 +1,4 @@
-use Rattle.std.proofs.Common.{◌≡◌, ◌↔◌, ℕ, List, [], length, ap, subst, ◌∙◌, Contains}
+use Rattle.std.proofs.Common.{ℕ, List, length, ap, subst, ◌∙◌, Contains}
 use Rattle.std.proofs.lemmas.Result.{IfOk-weaker}
 use Rattle.ranked_terms.specs.declared.term.Pattern.{Pattern}
 use Rattle.state_match.specs.Rows.{IsFirst, IsNextAt}

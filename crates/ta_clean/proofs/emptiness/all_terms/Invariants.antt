@@ -1,4 +1,4 @@
-use Rattle.std.proofs.Common.{◌≡◌, [], ◌∷◌, Contains, take}
+use Rattle.std.proofs.Common.{take}
 use Rattle.ta_clean.specs.Productive.{HasAllTerms}
 use Rattle.ta_clean.proofs.emptiness.all_terms.Given as goal
 

@@ -1,4 +1,4 @@
-use Rattle.std.proofs.Common.{ℕ, Contains, sym, ap, subst, arith}
+use Rattle.std.proofs.Common.{Contains, sym, ap, subst, arith}
 use Rattle.std.proofs.lemmas.List.Elements.{All-contains}
 use Rattle.ta_core.specs.TreeAutomaton.{IsSound}
 use Rattle.ta_clean.specs.Meeting.{IsCommon, FinalsMeet}

@@ -1,15 +1,18 @@
-use Rattle.ta_core.specs.Meeting.{HaveNoCommonTerm}
-use Rattle.top_call.proofs.Verdicts.{meets_unsettled, settles_by_both}
+use Rattle.std.proofs.Common.{◌≡◌, length, All, arith, ap, subst, sym, ◌∙◌}
+use Rattle.std.specs.List.{Contains}
+use Rattle.std.proofs.lemmas.List.FromFn.{length-range_with_len}
+use Rattle.list_laws.proofs.Members.{all_from_members}
 use Rattle.top_call.proofs.run.settles_itself.Goals as goal
 
-pub returns-then-not-branch : goal.returns-then-not-branch
-returns-then-not-branch c =
+-- the map that moves no state has an entry for each initial state
+pub check-requires-clause-map : goal.check-requires-clause-map
+check-requires-clause-map c =
     let spec = c.args.spec.now in
-    let meets : HaveNoCommonTerm spec.initial spec.forbidden → ⊥ = λ none. let yes = c.in_ok-have_no_common_term.ensures.1 none in cc (yes, c.if-not-branch.true) in
-    (λ no. cc no, λ settles. absurd (meets_unsettled c.accepted_terms_are_over.ensures spec spec.initial_over meets settles))
+    let same : length c.in_ok-unmoved.unmoved ≡ spec.initial.next = ap length (c.in_ok-unmoved.ensures ∙ (c.states.ensures.value ∙ spec.initial_states)) ∙ length-range_with_len 0 spec.initial.next in
+    omega (arith, same)
 
-pub returns : goal.returns
-returns c =
+-- which are states
+pub check-requires-clause-states : goal.check-requires-clause-states
+check-requires-clause-states c =
     let spec = c.args.spec.now in
-    let misses = c.in_ok-have_no_common_term.ensures.0 (cc c.if-not-branch.false) in
-    settles_by_both c.contained_automata_keep_runs.ensures.itself spec c.is_closed.ensures.sound misses c.as_slice.result.now c.as_slice.ensures c.is_closed.result c.is_closed.ensures.exact
+    subst (λ xs. All (Contains spec.initial.states) xs) (sym (c.in_ok-unmoved.ensures ∙ c.states.ensures.value)) (all_from_members (Contains spec.initial.states) spec.initial.states (λ x h. h))

@@ -1,6 +1,5 @@
-use Rattle.std.proofs.Common.{◌≡◌, ◌+◌, ◌<◌, ◌≤◌, ℕ, List, length, get_or, refl, sym, ap, subst, ◌∙◌, arith, rules}
+use Rattle.std.proofs.Common.{◌+◌, ◌<◌, ◌≤◌, ℕ, List, length, get_or, refl, sym, ap, subst, ◌∙◌, arith, rules}
 use Rattle.ta_core.specs.TreeAutomaton.{IsSound}
-use Rattle.ta_core.specs.declared.trans.Trans.{Trans}
 use Rattle.ta_clean.specs.Products.{TwoAutomata}
 use Rattle.ta_clean.specs.Sizes.{IsPairOf, size_at, sum_at}
 use Rattle.ta_clean.proofs.Building.{left_within, right_within, same_count, sum_less, left_in, right_in, term_is_built, argument_less, argument_in, AreBuilt, built_more}

@@ -1,13 +1,9 @@
-use Rattle.std.proofs.Common.{◌≡◌, ◌≤◌, ◌∙◌, ℕ, List, Some, Contains, get_or, slice_get, sym, ap, subst}
-use Rattle.std.proofs.lemmas.Option.{slice_get-get_or}
+use Rattle.std.proofs.Common.{◌∙◌, ℕ, List, Contains, get_or, ap, subst}
 use Rattle.std.proofs.lemmas.List.Elements.{Contains-get_or}
-use Rattle.ta_core.specs.TreeAutomaton.{IsSound}
-use Rattle.ta_core.specs.declared.trans.Trans.{Trans}
 use Rattle.ta_clean.specs.Products.{TwoAutomata}
-use Rattle.ta_clean.specs.Sizes.{Sizing, Passes, SettledBy, SettledByFirst, SettledBySecond, size_at}
+use Rattle.ta_clean.specs.Sizes.{Sizing, Passes, SettledByFirst}
 use Rattle.ta_clean.proofs.CommonTerms.{get_or_same}
 use Rattle.ta_clean.proofs.Sizing.{has_sizes, passes_start, passes_more, passes_all}
-use Rattle.ta_clean.proofs.Lowering.{first_pass, second_pass, pair_in}
 use Rattle.ta_clean.proofs.settling.Both.by_firsts.Goals as goal
 
 pub loop-from-init : goal.loop-from-init

@@ -1,11 +1,7 @@
-use Rattle.std.proofs.Common.{◌≡◌, ◌≤◌, ◌∙◌, ℕ, List, Some, Contains, get_or, length, slice_get, sym, ap, subst, arith}
-use Rattle.std.proofs.lemmas.Option.{slice_get-get_or}
-use Rattle.std.proofs.lemmas.List.Elements.{Contains-get_or}
+use Rattle.std.proofs.Common.{◌≡◌, ◌∙◌, ℕ, List, length, sym, ap, subst, arith}
 use Rattle.ta_core.specs.TreeAutomaton.{IsSound}
-use Rattle.ta_core.specs.declared.trans.Trans.{Trans}
 use Rattle.ta_clean.specs.Products.{TwoAutomata}
-use Rattle.ta_clean.specs.Sizes.{Sizing, Passes, SettledBy, SettledByFirst, SettledBySecond, sum_at}
-use Rattle.ta_clean.proofs.CommonTerms.{get_or_same}
+use Rattle.ta_clean.specs.Sizes.{SettledBy, sum_at}
 use Rattle.ta_clean.proofs.Sizing.{none_passes}
 use Rattle.ta_clean.proofs.Lowering.{two_pass, targets_in, at_contains}
 use Rattle.ta_clean.proofs.settling.Both.by_two.Goals as goal

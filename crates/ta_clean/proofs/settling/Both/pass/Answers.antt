@@ -1,13 +1,6 @@
-use Rattle.std.proofs.Common.{◌≡◌, ◌≤◌, ◌||◌, ◌∙◌, ℕ, List, Some, Contains, get_or, slice_get, sym, ap, subst}
-use Rattle.std.proofs.lemmas.Option.{slice_get-get_or}
-use Rattle.std.proofs.lemmas.List.Elements.{Contains-get_or}
-use Rattle.ta_core.specs.TreeAutomaton.{IsSound}
-use Rattle.ta_core.specs.declared.trans.Trans.{Trans}
-use Rattle.ta_clean.specs.Products.{TwoAutomata}
-use Rattle.ta_clean.specs.Sizes.{Sizing, Passes, AreSettled, SettledBy, SettledByFirst, SettledBySecond, size_at}
-use Rattle.ta_clean.proofs.CommonTerms.{get_or_same}
+use Rattle.std.proofs.Common.{◌||◌}
+use Rattle.ta_clean.specs.Sizes.{AreSettled}
 use Rattle.ta_clean.proofs.Sizing.{has_sizes, passes_as, passes_on}
-use Rattle.ta_clean.proofs.Lowering.{first_pass, second_pass, pair_in}
 use Rattle.ta_clean.proofs.settling.Both.pass.Goals as goal
 
 pub by_firsts-firsts-requires-clause-has : goal.by_firsts-firsts-requires-clause-has

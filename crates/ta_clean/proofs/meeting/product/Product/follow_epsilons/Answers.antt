@@ -1,4 +1,3 @@
-use Rattle.std.proofs.Common.{ℕ}
 use Rattle.ta_clean.proofs.CommonTerms.{has_table, keeps_on, steps_marked}
 use Rattle.ta_clean.proofs.meeting.product.Product.follow_epsilons.Goals as goal
 

@@ -1,5 +1,4 @@
-use Rattle.std.proofs.Common.{ℕ, sym, subst, ◌∙◌, arith}
-use Rattle.ta_clean.specs.Tables.{IsMarked, IsTaken, Table}
+use Rattle.std.proofs.Common.{sym, subst, ◌∙◌, arith}
 use Rattle.ta_clean.proofs.CommonTerms.{has_table, following_starts, following_more, following_ends, meets_taken, table_taken, pair_taken, keeps_itself, IsFollowing}
 use Rattle.ta_clean.proofs.meeting.product.Product.mark_all.Goals as goal
 

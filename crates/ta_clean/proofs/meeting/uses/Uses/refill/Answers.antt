@@ -1,4 +1,4 @@
-use Rattle.std.proofs.Common.{◌∙◌, Some, sym, ap, length, arith}
+use Rattle.std.proofs.Common.{◌∙◌, Some, sym, ap, arith}
 use Rattle.std.proofs.lemmas.Option.{slice_get-get_or}
 use Rattle.ta_clean.proofs.UseLists.{uses_before_more, uses_all}
 use Rattle.ta_clean.proofs.ArgumentPlaces.{places_more, places_through}
