@@ -15,6 +15,8 @@ mod of_reading;
 #[cfg(test)]
 mod of_ta_core;
 #[cfg(test)]
+mod of_terms;
+#[cfg(test)]
 mod of_tim_io;
 #[cfg(test)]
 mod of_timbuk_grammar;
@@ -24,3 +26,5 @@ mod of_timbuk_lex;
 mod of_top_call;
 #[cfg(test)]
 mod of_trs_rules;
+#[cfg(test)]
+mod texts;
