@@ -1,17 +1,10 @@
 //! What is read of texts, where it tells most: numbers, orders and what counts once. Worked out by hand.
+use crate::texts::spec_of;
 use std::alloc::Global;
 use std::test::Fail;
 use ta_core::{Automaton, Spec};
-use timbuk_reader::{SpecKind, TokenError, read_spec, tokens};
-
-/// The specification that the text spells.
-fn spec_of(alloc: Global, text: &str) -> Result<Spec, Fail> {
-    if text.len() > 1000 {
-        return Err(Fail::from("a long text"));
-    }
-    let spec = read_spec(alloc, text.as_bytes()).ok().ok_or("refused")?;
-    Ok(spec)
-}
+use timbuk_reader::{SpecKind, TokenError, tokens};
+use trs_rules::{Entry, Equation, Rule};
 
 /// Tells an automaton: its next number, its final states, its transitions as `symbol(states)>target`, its epsilon transitions.
 fn tell_automaton(alloc: Global, told: &mut String, automaton: &Automaton) -> Result<(), Fail> {
@@ -26,43 +19,73 @@ fn tell_automaton(alloc: Global, told: &mut String, automaton: &Automaton) -> Re
     Ok(())
 }
 
-/// The two automata of a text.
-fn automata_of(alloc: Global, text: &str) -> Result<String, Fail> {
-    let spec = spec_of(alloc, text)?;
+/// The two automata.
+fn tell_automata(alloc: Global, spec: &Spec) -> Result<String, Fail> {
     let mut told = String::new(alloc);
     tell_automaton(alloc, &mut told, &spec.initial)?;
     tell_automaton(alloc, &mut told, &spec.forbidden)?;
     Ok(told)
 }
 
-/// The rules and the equations of a text, each with its variables, and the number of declared variables.
-fn rules_of(alloc: Global, text: &str) -> Result<String, Fail> {
+/// The two automata of a text.
+fn automata_of(alloc: Global, text: &str) -> Result<String, Fail> {
     let spec = spec_of(alloc, text)?;
+    tell_automata(alloc, &spec)
+}
+
+/// A rule with its variables.
+fn rule_line(alloc: Global, rule: &Rule) -> Result<String, Fail> {
+    let (left, right, vars) = (rule.left(), rule.right(), rule.vars());
+    Ok(format!(in alloc; "{left:?} -> {right:?} {vars:?}\n")?)
+}
+
+/// An equation with its variables.
+fn equation_line(alloc: Global, equation: &Equation) -> Result<String, Fail> {
+    let (left, right, vars) = (equation.left(), equation.right(), equation.vars());
+    Ok(format!(in alloc; "{left:?} = {right:?} {vars:?}\n")?)
+}
+
+/// The rules and the equations, and the number of declared variables.
+fn tell_rules(alloc: Global, spec: &Spec) -> Result<String, Fail> {
     let mut told = String::new(alloc);
     for rule in spec.rules.as_slice() {
-        let (left, right, vars) = (rule.left(), rule.right(), rule.vars());
-        told.push_str(&format!(in alloc; "{left:?} -> {right:?} {vars:?}\n")?)?;
+        told.push_str(&rule_line(alloc, rule)?)?;
     }
     for equation in spec.equations.as_slice() {
-        let (left, right, vars) = (equation.left(), equation.right(), equation.vars());
-        told.push_str(&format!(in alloc; "{left:?} = {right:?} {vars:?}\n")?)?;
+        told.push_str(&equation_line(alloc, equation)?)?;
     }
-    let count = spec.vars.as_slice().len();
+    let count = spec.vars.len();
     told.push_str(&format!(in alloc; "{count}\n")?)?;
     Ok(told)
 }
 
-/// The entries of a text, and the number of the approximation's states.
-fn entries_of(alloc: Global, text: &str) -> Result<String, Fail> {
+/// The rules and the equations of a text.
+fn rules_of(alloc: Global, text: &str) -> Result<String, Fail> {
     let spec = spec_of(alloc, text)?;
+    tell_rules(alloc, &spec)
+}
+
+/// An entry: its whole pattern, then its shapes and its target.
+fn entry_line(alloc: Global, entry: &Entry) -> Result<String, Fail> {
+    let (whole, at, node, target) = (&entry.whole, &entry.at, &entry.node, entry.target);
+    Ok(format!(in alloc; "{whole:?} {at:?} {node:?} {target}\n")?)
+}
+
+/// The entries, and the number of the approximation's states.
+fn tell_entries(alloc: Global, spec: &Spec) -> Result<String, Fail> {
     let mut told = String::new(alloc);
     for entry in spec.entries.as_slice() {
-        let (whole, at, node, target) = (&entry.whole, &entry.at, &entry.node, entry.target);
-        told.push_str(&format!(in alloc; "{whole:?} {at:?} {node:?} {target}\n")?)?;
+        told.push_str(&entry_line(alloc, entry)?)?;
     }
     let (extra, approximated) = (spec.extra, spec.approximated);
     told.push_str(&format!(in alloc; "{extra} {approximated}\n")?)?;
     Ok(told)
+}
+
+/// The entries of a text.
+fn entries_of(alloc: Global, text: &str) -> Result<String, Fail> {
+    let spec = spec_of(alloc, text)?;
+    tell_entries(alloc, &spec)
 }
 
 /// Texts, and what is read of their automata.

@@ -1,10 +1,10 @@
 //! Which terminals the tokens of a text match, worked out by hand.
 use std::alloc::Global;
 use std::test::Fail;
-use timbuk_grammar::{Place, Terminal, is_closed_word, is_reserved_word};
+use timbuk_grammar::{Role, Terminal, is_closed_word, is_reserved_word};
 use timbuk_lex::{Lexeme, lex_of};
 
-/// Each terminal, with one place of a name for all.
+/// Each terminal, with one role of a name for all.
 const TERMINALS: &[Terminal] = &[
     Terminal::Ops,
     Terminal::Vars,
@@ -27,7 +27,7 @@ const TERMINALS: &[Terminal] = &[
     Terminal::OpenBracket,
     Terminal::CloseBracket,
     Terminal::CloseEntries,
-    Terminal::Named(Place::State),
+    Terminal::Named(Role::State),
     Terminal::Number,
     Terminal::Zero,
     Terminal::Quoted,

@@ -1,0 +1,9 @@
+use Rattle.timbuk_tests.proofs.of_terms.steps_of.Goals as goal
+
+pub positions-requires : goal.positions-requires
+positions-requires c =
+    c.of_terms_over.ensures.narrow c.args.signature.now c.len-symbols.ensures.valid c.in-Some.term ((c.in_ok-term.ensures c.in-Some.term).0 c.in-Some.is).over
+
+pub successors-requires-clause-arguments : goal.successors-requires-clause-arguments
+successors-requires-clause-arguments c =
+    c.of_terms_over.ensures.narrow c.args.signature.now c.len-symbols.ensures.valid c.in-Some.term ((c.in_ok-term.ensures c.in-Some.term).0 c.in-Some.is).over

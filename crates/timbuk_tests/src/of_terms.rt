@@ -1,0 +1,271 @@
+//! Terms, their texts, steps and derivations, on examples worked out by hand.
+use crate::texts::system_of;
+use ranked_terms::{Position, Seq, Signature, Term, laws, term_from};
+use std::alloc::{AllocError, Global};
+use std::test::Fail;
+use trs_rules::{DStep, Derivation, Rule, Successor, first_bad_step, replays, successors};
+
+/// Rules that overlap.
+const OVERLAPPING: &str = "Ops a:0 b:0 s:1 g:1 c:2 Vars x TRS R s(x) -> c(x,x) s(s(x)) -> x a -> b
+    Automaton A States Final States Transitions";
+
+/// A rule for a constant.
+const RENAMING: &str = "Ops a:0 b:0 s:1 TRS R a -> b Automaton A States Final States Transitions";
+
+/// A rule by which a term grows.
+const GROWING: &str =
+    "Ops a:0 s:1 g:1 Vars x TRS R g(x) -> g(s(x)) Automaton A States Final States Transitions";
+
+/// The term that a text spells.
+fn term(alloc: Global, signature: &Signature, text: &str) -> Result<Term, Fail> {
+    let found = term_from(alloc, signature, text.as_bytes())?;
+    let term = found.ok_or("no term")?;
+    Ok(term)
+}
+
+/// An arrow before what is printed of the term that the bytes spell, where they spell one.
+fn printed(alloc: Global, signature: &Signature, text: &[u8]) -> Result<Option<Vec<u8>>, Fail> {
+    let Some(term) = term_from(alloc, signature, text)? else {
+        return Ok(None);
+    };
+    let mut out = b"-> ".to_vec(alloc)?;
+    term.print_into(signature, &mut out)?;
+    Ok(Some(out))
+}
+
+/// Whether the bytes spell a term, and its text is the bytes.
+fn is_text(alloc: Global, signature: &Signature, text: &[u8]) -> Result<bool, Fail> {
+    let found = printed(alloc, signature, text)?;
+    Ok(found.is_some_and(|out| out.as_slice().strip_prefix(b"-> ") == Some(text)))
+}
+
+/// Texts of terms.
+const TERMS: &[&[u8]] = &[b"a", b"g(a)", b"c(g(a),b)", b"c(c(a,b),s(g(b)))"];
+
+/// Texts that are almost terms.
+const OTHERS: &[&[u8]] = &[
+    b"",
+    b" ",
+    b"a ",
+    b" a",
+    b"a()",
+    b"a,",
+    b"aa",
+    b"d",
+    b"s",
+    b"s(",
+    b"s()",
+    b"s(a",
+    b"s(a))",
+    b"s(a)a",
+    b"s(a)(",
+    b"s(a,a)",
+    b"s(a,)",
+    b"s (a)",
+    b"s( a)",
+    b"(a)",
+    b"c(a)",
+    b"c(a,",
+    b"c(a,)",
+    b"c(,a)",
+    b"c(a b)",
+    b"c(a,b",
+    b"c(a,b,a)",
+    b"c(a;b)",
+    b"s[a]",
+    b"S(a)",
+    b"s(\xff)",
+];
+
+#[test]
+fn texts_spell_terms_and_terms_are_printed(rt: HostRuntime) -> Result<(), Fail> {
+    let (signature, _) = system_of(rt.alloc(), OVERLAPPING)?;
+    for text in TERMS {
+        assert!(rt; is_text(rt.alloc(), &signature, text)?);
+    }
+    for text in OTHERS {
+        assert!(rt; printed(rt.alloc(), &signature, text)?.is_none());
+    }
+    Ok(())
+}
+
+/// The positions of the term that a text spells, and the steps from it.
+fn steps_of(
+    alloc: Global,
+    signature: &Signature,
+    rules: &[Rule],
+    text: &str,
+) -> Result<(Seq<Position>, Seq<Successor>), Fail> {
+    // For the proof: the arguments of a term over a signature can be named by 32 bits.
+    laws::of_terms_over();
+    let _symbols = signature.len();
+    if rules.len() > 9 {
+        return Err("many rules".into());
+    }
+    let Some(term) = term_from(alloc, signature, text.as_bytes())? else {
+        return Err("no term".into());
+    };
+    let positions = term.positions(alloc)?;
+    let steps = successors(alloc, rules, &term)?;
+    Ok((positions, steps))
+}
+
+/// The steps from `c(s(s(a)),a)` by the rules that overlap.
+const STEPS: &[(u32, &[u32], &str)] = &[
+    (0, &[1], "c(c(s(a),s(a)),a)"),
+    (0, &[1, 1], "c(s(c(a,a)),a)"),
+    (1, &[1], "c(a,a)"),
+    (2, &[1, 1, 1], "c(s(s(b)),a)"),
+    (2, &[2], "c(s(s(a)),b)"),
+];
+
+/// Whether these are the steps of the table.
+fn are_steps(alloc: Global, signature: &Signature, found: &[Successor]) -> Result<bool, Fail> {
+    for (step, (number, at, text)) in found.iter().zip(STEPS.iter()) {
+        let is_place = step.rule == *number && step.at.as_slice() == *at;
+        if !is_place || step.term != term(alloc, signature, text)? {
+            return Ok(false);
+        }
+    }
+    Ok(found.len() == STEPS.len())
+}
+
+#[test]
+fn steps_are_found_by_rule_and_then_position(rt: HostRuntime) -> Result<(), Fail> {
+    let (signature, rules) = system_of(rt.alloc(), OVERLAPPING)?;
+    let (_, found) = steps_of(rt.alloc(), &signature, rules.as_slice(), "c(s(s(a)),a)")?;
+    assert!(rt; are_steps(rt.alloc(), &signature, found.as_slice())?);
+    Ok(())
+}
+
+/// The first bad step of a derivation, after a test that a copy of it replays where there is none.
+fn bad_step(alloc: Global, rules: &[Rule], derivation: &Derivation) -> Result<Option<u32>, Fail> {
+    let copy = derivation.copy(alloc)?;
+    if copy.steps.len() > 9 || derivation.steps.len() > 9 {
+        return Err("many steps".into());
+    }
+    let bad = first_bad_step(rules, derivation);
+    if replays(rules, &copy) != bad.is_none() {
+        return Err("they differ".into());
+    }
+    Ok(bad)
+}
+
+/// The derivation along the terms of these texts, each step by the rule 0 at the root.
+fn along(
+    alloc: Global,
+    signature: &Signature,
+    start: &str,
+    texts: &[&str],
+) -> Result<Derivation, Fail> {
+    let mut steps = Seq::new(alloc);
+    for text in texts {
+        steps.push(DStep {
+            rule: 0,
+            at: Position::from_slice(alloc, &[])?,
+            term: term(alloc, signature, text)?,
+        })?;
+    }
+    let start = term(alloc, signature, start)?;
+    Ok(Derivation { start, steps })
+}
+
+/// The terms after `g(a)`, and the first of them to which no step leads.
+const DERIVATIONS: &[(&[&str], Option<u32>)] = &[
+    (&["g(s(a))", "g(s(s(a)))"], None),
+    (&["g(s(a))", "g(s(a))"], Some(2)),
+    (&["g(a)", "g(s(a))"], Some(1)),
+    (&[], None),
+];
+
+/// Whether the first bad step of each derivation of the table is the one that stands there.
+fn are_bad_steps(alloc: Global, signature: &Signature, rules: &[Rule]) -> Result<bool, Fail> {
+    for (texts, expected) in DERIVATIONS {
+        let derivation = along(alloc, signature, "g(a)", texts)?;
+        if bad_step(alloc, rules, &derivation)? != *expected {
+            return Ok(false);
+        }
+    }
+    Ok(true)
+}
+
+#[test]
+fn the_first_bad_step_is_named(rt: HostRuntime) -> Result<(), Fail> {
+    let (signature, rules) = system_of(rt.alloc(), GROWING)?;
+    assert!(rt; are_bad_steps(rt.alloc(), &signature, rules.as_slice())?);
+    Ok(())
+}
+
+/// `s` so many times before `a`.
+fn tower(alloc: Global, height: u32) -> Result<String, AllocError> {
+    let mut text = String::new(alloc);
+    for _ in 0..height {
+        text.push_str("s(")?;
+    }
+    text.push_str("a")?;
+    for _ in 0..height {
+        text.push_str(")")?;
+    }
+    Ok(text)
+}
+
+/// The size and the height, each up to 2,000 and up to 7.
+fn measures(term: &Term) -> [u32; 4] {
+    [
+        term.size_to(2000),
+        term.size_to(7),
+        term.height_to(2000),
+        term.height_to(7),
+    ]
+}
+
+/// Whether the term has a subterm at the position, and can be put into itself there.
+fn has_subterm(alloc: Global, term: &Term, at: &Position) -> Result<bool, AllocError> {
+    let whole = term.replace(alloc, at, term)?;
+    Ok(term.subterm(at).is_some() && whole.is_some())
+}
+
+#[test]
+fn a_text_of_1024_symbols_spells_a_term(rt: HostRuntime) -> Result<(), Fail> {
+    let (signature, _) = system_of(rt.alloc(), RENAMING)?;
+    let text = tower(rt.alloc(), 1023)?;
+    assert!(rt; is_text(rt.alloc(), &signature, text.as_bytes())?);
+    let deep = term(rt.alloc(), &signature, text.as_str())?;
+    assert_eq!(rt; measures(&deep), [1024, 7, 1024, 7]);
+    // One symbol more is one too many.
+    let text = tower(rt.alloc(), 1024)?;
+    assert!(rt; printed(rt.alloc(), &signature, text.as_bytes())?.is_none());
+    Ok(())
+}
+
+/// The derivation of the one step.
+fn of_step(alloc: Global, start: Term, step: &Successor) -> Result<Derivation, Fail> {
+    let at = Position::from_slice(alloc, step.at.as_slice())?;
+    let term = step.term.copy(alloc)?;
+    let rule = step.rule;
+    let mut steps = Seq::new(alloc);
+    steps.push(DStep { rule, at, term })?;
+    Ok(Derivation { start, steps })
+}
+
+/// Whether the step from the term has a position of it, and replays.
+fn is_replayed(alloc: Global, rules: &[Rule], start: Term, step: &Successor) -> Result<bool, Fail> {
+    if !has_subterm(alloc, &start, &step.at)? {
+        return Ok(false);
+    }
+    let derivation = of_step(alloc, start, step)?;
+    Ok(bad_step(alloc, rules, &derivation)?.is_none())
+}
+
+#[test]
+fn a_step_inside_of_1024_symbols_is_found_and_replays(rt: HostRuntime) -> Result<(), Fail> {
+    let (signature, rules) = system_of(rt.alloc(), RENAMING)?;
+    let text = tower(rt.alloc(), 1023)?;
+    let (positions, found) = steps_of(rt.alloc(), &signature, rules.as_slice(), text.as_str())?;
+    assert_eq!(rt; (positions.len(), found.len()), (1024, 1));
+    for step in found.as_slice() {
+        let deep = term(rt.alloc(), &signature, text.as_str())?;
+        assert!(rt; is_replayed(rt.alloc(), rules.as_slice(), deep, step)?);
+    }
+    Ok(())
+}
