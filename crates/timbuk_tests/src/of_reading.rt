@@ -104,7 +104,8 @@ const AUTOMATA: &[(&str, &str)] = &[
         Automaton Bad States any has bad fa fb Final States bad
         Transitions nil -> any cons(fa,any) -> any cons(fb,any) -> any cons(fa,any) -> has cons(fa,has) -> has
         cons(fb,has) -> has cons(fb,has) -> bad cons(fa,bad) -> bad cons(fb,bad) -> bad a -> fa b -> fb",
-        "5 [0] 0[1, 2]>0 1[]>1 1[]>2 2[3, 1]>1 2[4, 2]>2 3[]>3 4[]>4 []\n5 [2] 1[]>0 2[3, 0]>0 2[3, 0]>1 2[3, 1]>1 2[3, 2]>2 2[4, 0]>0 2[4, 1]>1 2[4, 1]>2 2[4, 2]>2 3[]>3 4[]>4 []\n",
+        "5 [0] 0[1, 2]>0 1[]>1 1[]>2 2[3, 1]>1 2[4, 2]>2 3[]>3 4[]>4 []\n\
+         5 [2] 1[]>0 2[3, 0]>0 2[3, 0]>1 2[3, 1]>1 2[3, 2]>2 2[4, 0]>0 2[4, 1]>1 2[4, 1]>2 2[4, 2]>2 3[]>3 4[]>4 []\n",
     ),
     (
         "Ops a:0 b:0 Automaton Loop States p q Final States q Transitions a -> p p -> q q -> p
@@ -137,7 +138,10 @@ fn approximations_are_read(rt: HostRuntime) -> Result<(), Fail> {
     let read = entries_of(rt.alloc(), text)?;
     assert_eq!(rt;
         read.as_str(),
-        "App(2, Seq { items: [App(1, Seq { items: [Var(0)] })] }) Var(1) App(1, Seq { items: [Var(2)] }) 2\nApp(2, Seq { items: [App(1, Seq { items: [Var(0)] })] }) Var(1) App(1, Seq { items: [State(1)] }) 0\nState(3) State(1) App(0, Seq { items: [] }) 3\n2 true\n"
+        "App(2, Seq { items: [App(1, Seq { items: [Var(0)] })] }) Var(1) App(1, Seq { items: [Var(2)] }) 2\n\
+         App(2, Seq { items: [App(1, Seq { items: [Var(0)] })] }) Var(1) App(1, Seq { items: [State(1)] }) 0\n\
+         State(3) State(1) App(0, Seq { items: [] }) 3\n\
+         2 true\n"
     );
     Ok(())
 }
@@ -149,7 +153,12 @@ fn rules_and_equations_are_read(rt: HostRuntime) -> Result<(), Fail> {
     let read = rules_of(rt.alloc(), text)?;
     assert_eq!(rt;
         read.as_str(),
-        "App(1, Seq { items: [Var(1), App(1, Seq { items: [Var(2), Var(0)] })] }) -> App(1, Seq { items: [Var(0), Var(0)] }) [1, 2, 0]\nApp(0, Seq { items: [] }) -> App(0, Seq { items: [] }) []\nApp(1, Seq { items: [Var(2), Var(0)] }) = App(1, Seq { items: [Var(0), Var(1)] }) [2, 0, 1]\nApp(0, Seq { items: [] }) = Var(1) [1]\n3\n"
+        "App(1, Seq { items: [Var(1), App(1, Seq { items: [Var(2), Var(0)] })] }) -> App(1, Seq { items: [Var(0), Var(0)] }) \
+         [1, 2, 0]\n\
+         App(0, Seq { items: [] }) -> App(0, Seq { items: [] }) []\n\
+         App(1, Seq { items: [Var(2), Var(0)] }) = App(1, Seq { items: [Var(0), Var(1)] }) [2, 0, 1]\n\
+         App(0, Seq { items: [] }) = Var(1) [1]\n\
+         3\n"
     );
     Ok(())
 }
