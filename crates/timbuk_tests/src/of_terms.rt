@@ -1,6 +1,6 @@
 //! Terms, their texts, steps and derivations, on examples worked out by hand.
 use crate::texts::system_of;
-use ranked_terms::{Position, Seq, Signature, Term, laws, term_from};
+use ranked_terms::{Pattern, Position, Seq, Signature, Term, laws, term_from};
 use std::alloc::{AllocError, Global};
 use std::test::Fail;
 use trs_rules::{DStep, Derivation, Rule, Successor, first_bad_step, replays, successors};
@@ -266,6 +266,40 @@ fn a_step_inside_of_1024_symbols_is_found_and_replays(rt: HostRuntime) -> Result
     for step in found.as_slice() {
         let deep = term(rt.alloc(), &signature, text.as_str())?;
         assert!(rt; is_replayed(rt.alloc(), rules.as_slice(), deep, step)?);
+    }
+    Ok(())
+}
+
+/// The symbol so many times before a variable.
+fn nested(alloc: Global, sym: u32, height: u32) -> Result<Pattern, AllocError> {
+    let mut pattern = Pattern::Var(0);
+    for _ in 0..height {
+        let mut arguments = Seq::new(alloc);
+        arguments.push(pattern)?;
+        pattern = Pattern::App(sym, arguments);
+    }
+    Ok(pattern)
+}
+
+/// The rule from so many symbols before a variable to the same.
+fn nested_rule(alloc: Global, sym: u32, height: u32) -> Result<Rule, Fail> {
+    let left = nested(alloc, sym, height)?;
+    let right = nested(alloc, sym, height)?;
+    let rule = Rule::new(left, right).ok().ok_or("no rule")?;
+    Ok(rule)
+}
+
+#[test]
+fn a_rule_of_1023_nested_symbols_matches_1024(rt: HostRuntime) -> Result<(), Fail> {
+    let (signature, _) = system_of(rt.alloc(), RENAMING)?;
+    let sym = signature.find("s").ok_or("no symbol")?;
+    let rules = [nested_rule(rt.alloc(), sym, 1023)?];
+    let text = tower(rt.alloc(), 1023)?;
+    let (_, found) = steps_of(rt.alloc(), &signature, &rules, text.as_str())?;
+    assert_eq!(rt; found.len(), 1);
+    for step in found.as_slice() {
+        assert!(rt; step.at.as_slice().is_empty());
+        assert!(rt; step.term == term(rt.alloc(), &signature, text.as_str())?);
     }
     Ok(())
 }
