@@ -116,7 +116,7 @@ pub fn each_match<V: Visit>(
     let mut each = Each { alloc, visitor };
     let result = each_group(alloc, automaton, pattern, vars.as_slice(), plain, &mut each);
     let Each { visitor, .. } = each;
-    // No effect at run time. The proof reads what the visitor is from this use.
+    // For the proof: what the visitor is is read from this use. It has no effect at run time.
     let _ = &*visitor;
     let _on = result?;
     Ok(())

@@ -21,7 +21,7 @@ use timbuk_reader::{SpecError, no_text_has_two_specs, read_spec};
 /// The largest number of bytes of a specification.
 const MAX_SPEC: usize = 1048576;
 
-/// The line for words that are no command line.
+/// The line for invalid arguments.
 const USAGE: &str =
     "usage: timbuk complete FILE [OPTIONS] | check SPEC CERT | ta OP FILE [--limit N] | browse SPEC SCRIPT | sample N\n";
 
@@ -111,7 +111,7 @@ fn answer<F: Shelf>(
 /// The words are exactly `complete FILE`. `Unreachable` comes exactly where the file is a specification whose initial
 /// automaton is closed under its rules and accepts no forbidden term, and then no term that is reachable, in whatever
 /// number of steps, is forbidden. `Undecided` comes exactly where the file is any other specification. `BadWords` comes
-/// exactly where the words are no command line, `TooLong` exactly where the file has more than 1,048,576 bytes, `BadSpec`
+/// exactly where the arguments are invalid, `TooLong` exactly where the file has more than 1,048,576 bytes, `BadSpec`
 /// exactly where its bytes are no specification, `ReadFault` only where the shelf failed at the file, `WriteFault` only
 /// where the sink failed, and `Memory` where memory ran out once the words were understood.
 ///

@@ -9,7 +9,7 @@ pub enum Status {
     Unreachable,
     /// Nothing is settled: the initial automaton is not closed under the rules, or it accepts a forbidden term.
     Undecided,
-    /// The words are no command line.
+    /// The arguments are invalid.
     BadWords,
     /// The file is no specification.
     BadSpec,
