@@ -11,4 +11,6 @@ pub mod Reached
 pub mod Acceptance
 pub mod AcceptanceLaws
 pub mod Meeting
+pub mod Growth
+pub mod KeptAside
 pub mod lemmas

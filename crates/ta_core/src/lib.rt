@@ -7,6 +7,7 @@
 mod args;
 mod assignment;
 mod automaton;
+mod growing;
 pub mod laws;
 mod lookup;
 mod map;
@@ -22,6 +23,7 @@ mod trans;
 pub use args::Args;
 pub use assignment::assign;
 pub use automaton::{Automaton, MAX_STATES, StateError};
+pub use growing::Growing;
 pub use map::Map;
 pub use options::Options;
 pub use safety::accepted_means_safe;
