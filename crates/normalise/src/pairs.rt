@@ -120,7 +120,8 @@ fn resolve(
     requires few { max_states ≤ 16384 }
     ensures ok { IfOk result (λ p. Normalised (by entries.now map.now rules.now) growing.old pair.now p growing.new) }
     ensures within { OnOk result (StaysWithin max_states growing.old growing.new) }
-    ensures full { IsErrOf result NormError.Full → NeedsMoreFor (by entries.now map.now rules.now) max_states growing.old pair.now }
+    ensures full { IsErrOf result NormError.Full →
+        NeedsMoreFor (by entries.now map.now rules.now) max_states growing.old pair.now }
     ensures settled { OnOk result (IsSettled growing.new rules.now pair.now) }
 {
     let rule = &rules[pair.rule as usize];

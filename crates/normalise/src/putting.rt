@@ -79,8 +79,8 @@ impl<'a> Putting<'a> {
             growing.add_trans(sym, states, to)?;
             return Ok(to);
         }
-        if let Some(to) = growing.least_target(sym, states)? {
-            return Ok(to);
+        if let Some(least) = growing.least_target(sym, states)? {
+            return Ok(least);
         }
         if growing.next() >= self.max_states {
             return Err(NormError::Full);

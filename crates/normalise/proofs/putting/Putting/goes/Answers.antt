@@ -19,15 +19,15 @@ returns-in-Some-clause-state c =
 
 pub returns-in-Some-2-clause-ok : goal.returns-in-Some-2-clause-ok
 returns-in-Some-2-clause-ok c =
-    reuse_goes c.args.self.now.task c.args.growing.now c.args.sym c.args.states.now c.in_ok-to.field-0 c.in_ok-to-2.field-0 c.in-Some-2.to (subst (λ (j : Job). IsSent j.task c.args.sym c.args.states.now c.in_ok-to.field-0) c.self.view_is c.in_ok-to.ensures) c.in_default.is c.in_ok-to-2.ensures.some c.in-Some-2.is
+    reuse_goes c.args.self.now.task c.args.growing.now c.args.sym c.args.states.now c.in_ok-to.field-0 c.in_ok-least.field-0 c.in-Some-2.least (subst (λ (j : Job). IsSent j.task c.args.sym c.args.states.now c.in_ok-to.field-0) c.self.view_is c.in_ok-to.ensures) c.in_default.is c.in_ok-least.ensures.some c.in-Some-2.is
 
 pub returns-in-Some-2-clause-state : goal.returns-in-Some-2-clause-state
-returns-in-Some-2-clause-state c = reuse_stands c.args.growing.now c.args.sym c.args.states.now c.in_ok-to-2.field-0 c.in-Some-2.to c.least_target.ensures.sound c.in_ok-to-2.ensures.some c.in-Some-2.is
+returns-in-Some-2-clause-state c = reuse_stands c.args.growing.now c.args.sym c.args.states.now c.in_ok-least.field-0 c.in-Some-2.least c.least_target.ensures.sound c.in_ok-least.ensures.some c.in-Some-2.is
 
 pub returns-then-next-self-clause-full : goal.returns-then-next-self-clause-full
 returns-then-next-self-clause-full c = λ e.
     let limit : c.args.self.now.most ≤ c.args.growing.now.next = omega (arith, c.if-next-self.true, c.next.ensures.value, ap (λ (j : Job). j.most) c.self.view_is) in
-    fresh_needs c.args.self.now.task c.args.growing.now c.args.sym c.args.states.now c.in_ok-to.field-0 c.in_ok-to-2.field-0 c.args.self.now.most (subst (λ (j : Job). IsSent j.task c.args.sym c.args.states.now c.in_ok-to.field-0) c.self.view_is c.in_ok-to.ensures) c.in_default.is c.in_ok-to-2.ensures.none c.in_default-2.is limit
+    fresh_needs c.args.self.now.task c.args.growing.now c.args.sym c.args.states.now c.in_ok-to.field-0 c.in_ok-least.field-0 c.args.self.now.most (subst (λ (j : Job). IsSent j.task c.args.sym c.args.states.now c.in_ok-to.field-0) c.self.view_is c.in_ok-to.ensures) c.in_default.is c.in_ok-least.ensures.none c.in_default-2.is limit
 
 pub add_trans-requires-2-clause-args : goal.add_trans-requires-2-clause-args
 add_trans-requires-2-clause-args c = fresh_args c.args.growing.now c.add_state-to.new.self c.args.states.now c.add_state-to.ensures.grown c.requires.args
@@ -37,8 +37,8 @@ add_trans-requires-2-clause-to c = fresh_stands c.args.growing.now c.add_state-t
 
 pub returns-clause-ok : goal.returns-clause-ok
 returns-clause-ok c =
-    fresh_goes c.args.self.now.task c.args.growing.now c.add_state-to.new.self c.add_trans-2.new.self c.args.sym c.args.states.now c.in_ok-to.field-0 c.in_ok-to-2.field-0 c.add_state-to.result
-    (subst (λ (j : Job). IsSent j.task c.args.sym c.args.states.now c.in_ok-to.field-0) c.self.view_is c.in_ok-to.ensures) c.in_default.is c.in_ok-to-2.ensures.none c.in_default-2.is c.add_state-to.ensures.number c.add_state-to.ensures.grown c.in_ok-add_trans-2.ensures.ok
+    fresh_goes c.args.self.now.task c.args.growing.now c.add_state-to.new.self c.add_trans-2.new.self c.args.sym c.args.states.now c.in_ok-to.field-0 c.in_ok-least.field-0 c.add_state-to.result
+    (subst (λ (j : Job). IsSent j.task c.args.sym c.args.states.now c.in_ok-to.field-0) c.self.view_is c.in_ok-to.ensures) c.in_default.is c.in_ok-least.ensures.none c.in_default-2.is c.add_state-to.ensures.number c.add_state-to.ensures.grown c.in_ok-add_trans-2.ensures.ok
 
 pub returns-clause-state : goal.returns-clause-state
 returns-clause-state c =
