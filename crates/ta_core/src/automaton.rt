@@ -236,8 +236,8 @@ impl Automaton {
         self.finals.insert(q)
     }
 
-    /// Adds many transitions, in any order and as often as they stand there, by one sort of all. When memory runs out the
-    /// automaton is as before.
+    /// Adds many transitions, in any order and as often as they stand there: they are sorted, and merged with those that are
+    /// there. When memory runs out the automaton is as before.
     pub fn add_all_trans(&mut self, more: Seq<Trans>) -> Result<(), AllocError>
         requires { All (IsTransOf self.old.states) more }
         ensures members { OnOk result (IsUnion self.old.trans more self.new.trans) }
@@ -248,8 +248,8 @@ impl Automaton {
         self.trans.add_all(more.into_vec())
     }
 
-    /// Adds many epsilon transitions from a state to another one, in any order and as often as they stand there, by one sort
-    /// of all. When memory runs out the automaton is as before.
+    /// Adds many epsilon transitions from a state to another one, in any order and as often as they stand there: they are
+    /// sorted, and merged with those that are there. When memory runs out the automaton is as before.
     pub fn add_all_eps(&mut self, more: Seq<(u32, u32)>) -> Result<(), AllocError>
         requires { All (IsEpsOf self.old.states) more }
         ensures members { OnOk result (IsUnion self.old.eps more self.new.eps) }
@@ -260,8 +260,8 @@ impl Automaton {
         self.eps.add_all(more.into_vec())
     }
 
-    /// Makes many states final, in any order and as often as they stand there, by one sort of all. When memory runs out the
-    /// automaton is as before.
+    /// Makes many states final, in any order and as often as they stand there: they are sorted, and merged with those that
+    /// are there. When memory runs out the automaton is as before.
     pub fn set_all_final(&mut self, more: Seq<u32>) -> Result<(), AllocError>
         requires { All (Contains self.old.states) more }
         ensures members { OnOk result (IsUnion self.old.finals more self.new.finals) }
