@@ -1,4 +1,4 @@
-use Rattle.std.proofs.Common.{◌≡◌, Bool, false, true, true≢false, Result, Ok, Err, OnOk, sym, subst, ◌∙◌, ⊎_elim, inl, inr}
+use Rattle.std.proofs.Common.{◌≡◌, false, true≢false, Result, Ok, Err, OnOk, sym, subst, ◌∙◌, ⊎_elim, inl, inr}
 use Rattle.std.specs.List.{Contains}
 use Rattle.std.specs.Result.{is_err}
 use Rattle.std.proofs.lemmas.List.Filters.{dedup_is}
