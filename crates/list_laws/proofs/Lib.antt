@@ -11,3 +11,4 @@ pub mod Ascending
 pub mod Listings
 pub mod Decided
 pub mod Growing
+pub mod InOrder

@@ -2,3 +2,4 @@ pub mod Lists
 pub mod Listings
 pub mod ListingLaws
 pub mod ListLaws
+pub mod InOrder

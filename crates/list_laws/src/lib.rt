@@ -7,6 +7,7 @@ ghost use Rattle.list_laws.specs.ListingLaws.{FirstsAreFronts};
 ghost use Rattle.list_laws.specs.ListLaws.{InsertionsAdd, InsertionsAscend, PartsAscend, DecidedAreListed, EndsStay};
 ghost use Rattle.list_laws.specs.ListLaws.{SearchesFind, PlacesStay, PartsDiffer, FitsAreLong, InsertionsGrow};
 ghost use Rattle.list_laws.specs.ListLaws.{NeitherPasses};
+ghost use Rattle.list_laws.specs.InOrder.{ListsInOrderAscend, ListsInOrderHaveAll, UnionsAreInOrder, InsertionsAside};
 
 use std::marker::Brand;
 
@@ -48,12 +49,18 @@ pub fn of_listings<T: Ordered>()
 {}
 
 /// Laws of lists in an order. An insertion adds one thing and keeps the order; two lists that ascend, one before the other,
-/// ascend as one; and whatever is decided, and has all of it in some list, has a listing.
+/// ascend as one; and whatever is decided, and has all of it in some list, has a listing. A list that is put in order ascends
+/// and has the same members; an ascending union is the two lists in order; and members that are kept aside in order stand
+/// where they would stand at once.
 pub fn of_orders<T: Ordered>()
     ensures insertions { InsertionsAdd T.order }
     ensures ascend { InsertionsAscend T.order }
     ensures parts { PartsAscend T.order }
     ensures decided { DecidedAreListed T.order T.has }
+    ensures in_order { ListsInOrderAscend T.order }
+    ensures have_all { ListsInOrderHaveAll T.order }
+    ensures unions { UnionsAreInOrder T.order }
+    ensures aside { InsertionsAside T.order }
 {}
 
 /// Laws of places: a list ends as its second part does, a binary search finds what is there, a number that is mapped keeps

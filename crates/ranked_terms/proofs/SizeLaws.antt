@@ -6,7 +6,7 @@ use Rattle.std.proofs.lemmas.List.Sums.{sum_by-cons}
 use Rattle.ranked_terms.specs.Names.{Symbol, arity_of}
 use Rattle.ranked_terms.specs.Terms.{size_of, height_of, greatest, is_arity, is_symbol, is_over}
 use Rattle.ranked_terms.specs.declared.term.Term.{Term}
-use Rattle.ranked_terms.proofs.SignatureLaws.{arity_of-kept}
+use Rattle.ranked_terms.proofs.signatures.SignatureLaws.{arity_of-kept}
 use Rattle.ranked_terms.specs.lemmas.TermLaws.{size_node, height_node, is_over_node, term_induction}
 use Rattle.ranked_terms.specs.lemmas.InstanceLaws.{both, along}
 

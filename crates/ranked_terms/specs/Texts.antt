@@ -2,6 +2,7 @@
 use Rattle.std.specs.Prelude.{◌≡◌, ℕ, ◌+◌, ◌≤◌, ◌==◌, true, false, if◌then◌else◌, List, [], ◌∷◌, ◌++◌, map, Some, unwrap_or, IsTrue}
 use Rattle.std.specs.List.{join_with_byte}
 use Rattle.std.specs.Int.Digits.{digits_of}
+use Rattle.ranked_terms.specs.Limits.{max_size}
 use Rattle.ranked_terms.specs.Words.{is_word_byte}
 use Rattle.ranked_terms.specs.Names.{Symbol, name_of, arity_of}
 use Rattle.ranked_terms.specs.Terms.{is_over, size_of}
@@ -36,7 +37,7 @@ term_text signature = fold-Term Text (term_step signature)
 pub record IsTextOf (signature : List Symbol) (text : Text) (t : Term) : Type 0 where
   pub over : IsTrue (is_over signature t)
   pub text_is : text ≡ term_text signature t
-  pub small : size_of t ≤ 1024
+  pub small : size_of t ≤ max_size
 
 -- the bytes are the old ones and then a prefix of the text
 pub record IsCutShort (old text new : Text) : Type 0 where

@@ -2,6 +2,7 @@
 use Rattle.std.specs.Prelude.{ℕ, ◌≤◌, ◌<◌, Bool, ◌||◌, ◌==◌, List, length, IsTrue}
 use Rattle.std.specs.List.{list_all}
 use Rattle.std.specs.Char.{is_ascii_alphanumeric}
+use Rattle.ranked_terms.specs.Limits.{max_name}
 
 -- a letter, a digit, or one of _ ' # ! ? @ $ & % . + /
 abbrev pub is_word_byte : ℕ → Bool
@@ -15,4 +16,4 @@ pub record IsWord (text : List ℕ) : Type 0 where
 -- a word that is short enough to be a name
 pub record IsNameText (text : List ℕ) : Type 0 where
   pub word : IsWord text
-  pub short : length text ≤ 255
+  pub short : length text ≤ max_name

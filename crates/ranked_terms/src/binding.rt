@@ -1,6 +1,7 @@
 //! The terms that variables stand for.
 ghost use Rattle.std.specs.Prelude.{◌≡◌, ◌↔◌, [], ◌∷◌, ◌++◌, ◌<◌, ◌≤◌, length, take, IsTrue, MatchBool, None};
 ghost use Rattle.std.specs.Option.{option_copied};
+ghost use Rattle.ranked_terms.specs.Limits.{max_variables};
 ghost use Rattle.ranked_terms.specs.Terms.{with_variable};
 ghost use Rattle.ranked_terms.specs.Matching.{bound_in, lookup, Once, IsBoundBy, IsRefused};
 
@@ -18,6 +19,7 @@ pub struct Binding<'a> {
 impl<'a> Model for Binding<'a> {
     ghost use Rattle.std.specs.Prelude.{◌≡◌, ℕ, ◌≤◌, List, length, take};
     ghost use Rattle.std.specs.Coded.{coded_list, coded_ℕ, coded×};
+    ghost use Rattle.ranked_terms.specs.Limits.{max_variables};
     ghost use Rattle.ranked_terms.specs.declared.term.Term.{Term as Ground};
     ghost use Rattle.ranked_terms.specs.contracts.term.Term as term;
     ghost use Rattle.ranked_terms.specs.Matching.{filled, bound_in, Once};
@@ -28,7 +30,7 @@ impl<'a> Model for Binding<'a> {
 
     ghost view = { λ b. filled (take b.len b.slots) };
 
-    ghost invariant = { λ b. (b.len ≤ 16) × (length (filled (take b.len b.slots)) ≡ b.len)
+    ghost invariant = { λ b. (b.len ≤ max_variables) × (length (filled (take b.len b.slots)) ≡ b.len)
         × Once (bound_in (filled (take b.len b.slots))) };
 }
 
@@ -67,7 +69,7 @@ impl<'a> Binding<'a> {
 
     /// Binds a variable to a term, unless it is bound to another one.
     pub(crate) fn bind(&mut self, variable: u32, t: &'a Term) -> bool
-        requires { length (with_variable (bound_in self.old) variable) ≤ 16 }
+        requires { length (with_variable (bound_in self.old) variable) ≤ max_variables }
         ensures { MatchBool result (IsBoundBy (Pattern.Var variable) t.now self.old self.new)
             (IsRefused (Pattern.Var variable) t.now self.old self.new) }
     {
@@ -81,7 +83,7 @@ impl<'a> Binding<'a> {
     }
 
     fn push(&mut self, variable: u32, t: &'a Term)
-        requires room { length self.old < 16 }
+        requires room { length self.old < max_variables }
         requires new { lookup self.old variable ≡ None }
         ensures { self.new ≡ self.old ++ (variable, t.now) ∷ [] }
     {

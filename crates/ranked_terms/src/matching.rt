@@ -1,5 +1,6 @@
 //! Matching and instances.
 ghost use Rattle.std.specs.Prelude.{◌≡◌, ◌≤◌, ◌↔◌, ℕ, length, IsTrue, IfOk, Contains, MatchBool};
+ghost use Rattle.ranked_terms.specs.Limits.{max_variables};
 ghost use Rattle.ranked_terms.specs.Terms.{instance_of, occurrences};
 ghost use Rattle.ranked_terms.specs.Matching.{IsInstance, IsBoundBy, IsInstanceBy, IsRefused};
 ghost use Rattle.ranked_terms.specs.Matching.{bound_in, bound_with, binding_of, with_variables};
@@ -14,7 +15,7 @@ use std::alloc::{AllocError, Global};
 /// twice in the pattern stands for one term. With those bound already, the pattern has at most 16 different variables.
 /// It takes no memory.
 pub fn match_term<'a>(p: &Pattern, t: &'a Term, b: &mut Binding<'a>) -> bool
-    requires { length (bound_with b.old p.now) ≤ 16 }
+    requires { length (bound_with b.old p.now) ≤ max_variables }
     ensures exactly { IsTrue result ↔ IsInstance p.now t.now b.old }
     ensures bound { IsTrue result → IsBoundBy p.now t.now b.old b.new }
     ensures refused { (IsTrue result → ⊥) → b.new ≡ b.old }
@@ -26,7 +27,7 @@ pub fn match_term<'a>(p: &Pattern, t: &'a Term, b: &mut Binding<'a>) -> bool
 
 // The same, by the substitutions that agree with the binding.
 fn match_under<'a>(p: &Pattern, t: &'a Term, b: &mut Binding<'a>) -> bool
-    requires { length (with_variables (bound_in b.old) (occurrences p.now)) ≤ 16 }
+    requires { length (with_variables (bound_in b.old) (occurrences p.now)) ≤ max_variables }
     ensures { MatchBool result (IsBoundBy p.now t.now b.old b.new) (IsRefused p.now t.now b.old b.new) }
 {
     match p {

@@ -1,6 +1,7 @@
 //! Signatures: symbols with names and arities.
 ghost use Rattle.std.specs.Prelude.{◌≡◌, ℕ, ◌≤◌, ◌↔◌, Some, [], ◌∷◌, ◌++◌, length, IsNone, IsSome, IfOk, OnOk, OnErr, IsErrOf};
 ghost use Rattle.std.specs.Option.{option_copied};
+ghost use Rattle.ranked_terms.specs.Limits.{max_symbols, max_arity};
 ghost use Rattle.ranked_terms.specs.Words.{IsNameText};
 ghost use Rattle.ranked_terms.specs.Names.{number_of, arity_of, name_of};
 ghost use Rattle.ranked_terms.specs.SignatureRules.{IsSignature};
@@ -84,11 +85,11 @@ impl Signature {
     /// exactly where it is not and there are `MAX_SYMBOLS` symbols. A refused call leaves the signature as it was.
     pub fn add(&mut self, name: &str, arity: u32) -> Result<u32, SigError>
         requires name { IsNameText name.now }
-        requires arity { arity ≤ 16 }
+        requires arity { arity ≤ max_arity }
         ensures number { IfOk result (λ number. number ≡ length self.old) }
         ensures added { OnOk result (self.new ≡ self.old ++ (name.now, arity) ∷ []) }
         ensures double { IsErrOf result SigError.Double ↔ IsSome (number_of self.old name.now) }
-        ensures full { IsErrOf result SigError.Full ↔ (IsNone (number_of self.old name.now) × (length self.old ≡ 4096)) }
+        ensures full { IsErrOf result SigError.Full ↔ (IsNone (number_of self.old name.now) × (length self.old ≡ max_symbols)) }
         ensures refused { OnErr result (self.new ≡ self.old) }
     {
         if self.find(name).is_some() {
@@ -141,7 +142,7 @@ impl Signature {
     /// The number of symbols, at most `MAX_SYMBOLS`. Its contract says besides what always holds of a signature.
     pub fn len(&self) -> u32
         ensures value { result ≡ length self.now }
-        ensures few { length self.now ≤ 4096 }
+        ensures few { length self.now ≤ max_symbols }
         ensures valid { IsSignature self.now }
     {
         self.symbols.len() as u32

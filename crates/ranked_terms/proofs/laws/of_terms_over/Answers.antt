@@ -1,5 +1,5 @@
-use Rattle.ranked_terms.proofs.PreorderLaws.{over_is_narrow}
-use Rattle.ranked_terms.proofs.ReadLaws.{texts_differ}
+use Rattle.ranked_terms.proofs.places.PreorderLaws.{over_is_narrow}
+use Rattle.ranked_terms.proofs.texts.ReadLaws.{texts_differ}
 use Rattle.ranked_terms.proofs.laws.of_terms_over.Goals as goal
 
 pub returns-clause-texts : goal.returns-clause-texts

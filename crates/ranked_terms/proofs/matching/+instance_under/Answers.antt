@@ -3,7 +3,7 @@ use Rattle.std.specs.Option.{option_copied}
 use Rattle.ranked_terms.specs.declared.term.Pattern.TheViews.{the_lemmas}
 use Rattle.ranked_terms.specs.Terms.{instance_of}
 use Rattle.ranked_terms.specs.Matching.{binding_of}
-use Rattle.ranked_terms.proofs.BoundLaws.{argument_has, bound_is_some, instances_all, instances_more, var_has}
+use Rattle.ranked_terms.proofs.bindings.BoundLaws.{argument_has, bound_is_some, instances_all, instances_more, var_has}
 use Rattle.ranked_terms.proofs.matching.+instance_under.Goals as goal
 
 pub unreachable-requires : goal.unreachable-requires

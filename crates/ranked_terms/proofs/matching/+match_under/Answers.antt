@@ -4,7 +4,7 @@ use Rattle.ranked_terms.specs.Terms.{node, occurrences}
 use Rattle.ranked_terms.specs.declared.term.Pattern.TheVariants.{App}
 use Rattle.ranked_terms.specs.declared.term.Pattern.TheViews.{the_lemmas}
 use Rattle.ranked_terms.specs.Matching.{IsRefused, bound_in, with_variables}
-use Rattle.ranked_terms.proofs.MatchingLaws.{MatchedAll, opened, all_room, all_step, all_refused, matched_whole, refused_whole}
+use Rattle.ranked_terms.proofs.bindings.MatchingLaws.{MatchedAll, opened, all_room, all_step, all_refused, matched_whole, refused_whole}
 use Rattle.ranked_terms.proofs.matching.+match_under.Goals as goal
 
 pub match_under-requires : goal.match_under-requires

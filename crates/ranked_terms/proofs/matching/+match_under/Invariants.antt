@@ -1,5 +1,5 @@
 use Rattle.std.proofs.Common.{take}
-use Rattle.ranked_terms.proofs.MatchingLaws.{MatchedAll}
+use Rattle.ranked_terms.proofs.bindings.MatchingLaws.{MatchedAll}
 use Rattle.ranked_terms.proofs.matching.+match_under.Given as goal
 
 abbrev pub invariant-loop-i : goal.invariant-loop-i

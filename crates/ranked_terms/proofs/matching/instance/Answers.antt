@@ -1,4 +1,4 @@
-use Rattle.ranked_terms.proofs.BoundLaws.{is_instance_by}
+use Rattle.ranked_terms.proofs.bindings.BoundLaws.{is_instance_by}
 use Rattle.ranked_terms.proofs.matching.instance.Goals as goal
 
 pub returns : goal.returns

@@ -1,4 +1,4 @@
-use Rattle.ranked_terms.proofs.BindingLaws.{decided}
+use Rattle.ranked_terms.proofs.bindings.BindingLaws.{decided}
 use Rattle.ranked_terms.proofs.matching.match_term.Goals as goal
 
 pub returns-clause-exactly : goal.returns-clause-exactly

@@ -2,7 +2,7 @@ use Rattle.std.proofs.Common.{◌≡◌, ◌+◌, [], ◌∷◌, ◌++◌, map, 
 use Rattle.std.proofs.lemmas.Grind.{common_steps}
 use Rattle.ranked_terms.specs.declared.term.Term.TheViews.{the_lemmas}
 use Rattle.ranked_terms.specs.Positions.{positions_of}
-use Rattle.ranked_terms.proofs.PreorderLaws.{narrow_argument, found_more, found_all}
+use Rattle.ranked_terms.proofs.places.PreorderLaws.{narrow_argument, found_more, found_all}
 use Rattle.ranked_terms.proofs.positions.+add_positions.Goals as goal
 
 pub add_positions-requires : goal.add_positions-requires

@@ -1,7 +1,7 @@
 use Rattle.std.proofs.Common.{◌<◌, ◌≤◌, ◌-◌, [], ◌∷◌, length, length-append, subst, sym, ap, arith}
 use Rattle.std.specs.Prelude.{MatchOption}
 use Rattle.ranked_terms.specs.Texts.{BeginsNoTerm, BeginsWith}
-use Rattle.ranked_terms.proofs.ReadingLaws.{AreRead, no_symbol, none_read, no_mark, no_argument, one_more, not_ended, whole_read}
+use Rattle.ranked_terms.proofs.texts.ReadingLaws.{AreRead, no_symbol, none_read, no_mark, no_argument, one_more, not_ended, whole_read}
 use Rattle.ranked_terms.proofs.reading.+read_term.Goals as goal
 
 pub returns-in_default : goal.returns-in_default

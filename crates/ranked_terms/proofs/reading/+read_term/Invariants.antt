@@ -1,5 +1,5 @@
 use Rattle.std.proofs.Common.{◌≡◌, length}
-use Rattle.ranked_terms.proofs.ReadingLaws.{AreRead}
+use Rattle.ranked_terms.proofs.texts.ReadingLaws.{AreRead}
 use Rattle.ranked_terms.proofs.reading.+read_term.Given as goal
 
 abbrev pub decreases-read_term : goal.decreases-read_term

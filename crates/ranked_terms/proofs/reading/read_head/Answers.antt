@@ -2,7 +2,7 @@ use Rattle.std.proofs.Common.{Option, subst, sym}
 use Rattle.std.specs.Prelude.{MatchOption}
 use Rattle.ranked_terms.specs.Texts.{BeginsNoSymbol, IsHead}
 use Rattle.ranked_terms.specs.declared.reading.Head.{Head}
-use Rattle.ranked_terms.proofs.HeadLaws.{word_utf8, unknown_name, no_arity, head_found}
+use Rattle.ranked_terms.proofs.texts.HeadLaws.{word_utf8, unknown_name, no_arity, head_found}
 use Rattle.ranked_terms.proofs.reading.read_head.Goals as goal
 
 pub returns-in_default : goal.returns-in_default

@@ -1,5 +1,5 @@
 use Rattle.std.proofs.Common.{◌∙◌, ◌==◌, get_or, sym, true≢false}
-use Rattle.ranked_terms.proofs.HeadLaws.{empty_stops, first_stops, stops_first, not_true, true_not}
+use Rattle.ranked_terms.proofs.texts.HeadLaws.{empty_stops, first_stops, stops_first, not_true, true_not}
 use Rattle.ranked_terms.proofs.reading.stops.Goals as goal
 
 pub returns-then-is_empty : goal.returns-then-is_empty

@@ -2,8 +2,8 @@ use Rattle.std.proofs.Common.{Option, subst}
 use Rattle.std.specs.Prelude.{MatchOption}
 use Rattle.ranked_terms.specs.Texts.{BeginsNoTerm, BeginsWith}
 use Rattle.ranked_terms.specs.declared.reading.Read.{Read}
-use Rattle.ranked_terms.proofs.ReadingLaws.{no_text, more_text, whole_text}
-use Rattle.ranked_terms.proofs.HeadLaws.{is_nothing, is_something}
+use Rattle.ranked_terms.proofs.texts.ReadingLaws.{no_text, more_text, whole_text}
+use Rattle.ranked_terms.proofs.texts.HeadLaws.{is_nothing, is_something}
 use Rattle.ranked_terms.proofs.reading.term_from.Goals as goal
 
 pub returns-in_default : goal.returns-in_default

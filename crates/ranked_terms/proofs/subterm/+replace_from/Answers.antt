@@ -4,7 +4,7 @@ use Rattle.ranked_terms.specs.Terms.{node}
 use Rattle.ranked_terms.specs.declared.term.Term.{Term}
 use Rattle.ranked_terms.specs.declared.term.Term.TheViews.{out-Term}
 use Rattle.ranked_terms.specs.Positions.{ReplacedAt}
-use Rattle.ranked_terms.proofs.PositionLaws.{args_of, is_replaced}
+use Rattle.ranked_terms.proofs.places.PositionLaws.{args_of, is_replaced}
 use Rattle.ranked_terms.proofs.subterm.+replace_from.Goals as goal
 
 pub returns : goal.returns

@@ -1,5 +1,5 @@
 use Rattle.std.proofs.Common.{sym, ◌∙◌}
-use Rattle.ranked_terms.proofs.ChangeLaws.{lists-same, same-lists}
+use Rattle.ranked_terms.proofs.places.ChangeLaws.{lists-same, same-lists}
 use Rattle.ranked_terms.proofs.subterm.are_equal.Goals as goal
 
 pub returns : goal.returns

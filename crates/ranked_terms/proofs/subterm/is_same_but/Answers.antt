@@ -1,5 +1,5 @@
 use Rattle.std.proofs.Common.{◌≡◌, ◌≤◌, true, refl, inl, inr, arith}
-use Rattle.ranked_terms.proofs.ChangeLaws.{not_same_but, fronts_same, backs_same, is_same_but_by, slices_same}
+use Rattle.ranked_terms.proofs.places.ChangeLaws.{not_same_but, fronts_same, backs_same, is_same_but_by, slices_same}
 use Rattle.ranked_terms.proofs.subterm.is_same_but.Goals as goal
 use Rattle.ranked_terms.proofs.subterm.is_same_but.Goals.{then-s-t-via-then-s-t, then-s-t-via-else-s-t+then-ss-ts, then-s-t-via-else-s-t+else-ss-ts+then-number-eq0, then-s-t-via-else-s-t+else-ss-ts+else-number-eq0+then-ss-number}
 

@@ -1,7 +1,7 @@
 use Rattle.std.proofs.Common.{subst, sym}
 use Rattle.ranked_terms.specs.Matching.{IsBoundBy}
 use Rattle.ranked_terms.specs.declared.term.Pattern.TheVariants.{Var}
-use Rattle.ranked_terms.proofs.MatchingLaws.{bind_found, bind_new, room_for_new}
+use Rattle.ranked_terms.proofs.bindings.MatchingLaws.{bind_found, bind_new, room_for_new}
 use Rattle.ranked_terms.proofs.binding.Binding.bind.Goals as goal
 
 pub push-requires : goal.push-requires

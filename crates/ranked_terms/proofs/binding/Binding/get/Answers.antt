@@ -1,6 +1,6 @@
 use Rattle.std.proofs.Common.{◌≡◌, [], ◌∷◌, take, None, sym, ap, ◌∙◌}
 use Rattle.ranked_terms.specs.Matching.{filled, lookup}
-use Rattle.ranked_terms.proofs.MatchingLaws.{filled_found, filled_passed, filled_empty, filled_other}
+use Rattle.ranked_terms.proofs.bindings.MatchingLaws.{filled_found, filled_passed, filled_empty, filled_other}
 use Rattle.ranked_terms.proofs.binding.Binding.get.Goals as goal
 use Rattle.ranked_terms.proofs.binding.Binding.get.Goals.{in-Some+else-bound-variable, in_default}
 

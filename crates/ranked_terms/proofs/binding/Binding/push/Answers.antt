@@ -1,11 +1,11 @@
 use Rattle.std.proofs.Common.{◌<◌, ◌+◌, [], ◌∷◌, ◌++◌, length, take, Some, ap, ◌∙◌, arith, length-append}
 use Rattle.std.proofs.lemmas.List.{take_more_set}
 use Rattle.ranked_terms.specs.Matching.{filled}
-use Rattle.ranked_terms.proofs.MatchingLaws.{filled-append}
+use Rattle.ranked_terms.proofs.bindings.MatchingLaws.{filled-append}
 use Rattle.ranked_terms.proofs.binding.Binding.push.Goals as goal
 use Rattle.std.proofs.Common.{sym, subst}
 use Rattle.ranked_terms.specs.Matching.{bound_in, lookup, Once}
-use Rattle.ranked_terms.proofs.BindingLaws.{Once-bound}
+use Rattle.ranked_terms.proofs.bindings.BindingLaws.{Once-bound}
 
 pub returns : goal.returns
 returns c =

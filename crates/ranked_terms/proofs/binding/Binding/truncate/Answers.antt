@@ -1,7 +1,7 @@
 use Rattle.std.proofs.Common.{◌≤◌, length, take, ap, sym, subst, ◌∙◌, arith}
 use Rattle.ranked_terms.specs.Matching.{filled, bound_in, Once}
-use Rattle.ranked_terms.proofs.BindingLaws.{Once-take}
-use Rattle.ranked_terms.proofs.MatchingLaws.{filled_front}
+use Rattle.ranked_terms.proofs.bindings.BindingLaws.{Once-take}
+use Rattle.ranked_terms.proofs.bindings.MatchingLaws.{filled_front}
 use Rattle.ranked_terms.proofs.binding.Binding.truncate.Goals as goal
 
 pub invariant_of-self : goal.invariant_of-self

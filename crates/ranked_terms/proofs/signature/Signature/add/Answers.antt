@@ -1,7 +1,7 @@
 use Rattle.std.proofs.Common.{◌≡◌, ◌≢◌, ◌∷◌, ◌++◌, [], length, is_some, false, ap, ◌∙◌, sym}
 use Rattle.ranked_terms.specs.Names.{number_of}
 use Rattle.ranked_terms.specs.SignatureRules.{symbols_of}
-use Rattle.ranked_terms.proofs.SignatureLemmas.{added_entries, names-distinct, IsSignature-added}
+use Rattle.ranked_terms.proofs.signatures.SignatureLemmas.{added_entries, names-distinct, IsSignature-added}
 use Rattle.ranked_terms.proofs.signature.Signature.add.Goals as goal
 
 pub invariant_of-self-2 : goal.invariant_of-self-2

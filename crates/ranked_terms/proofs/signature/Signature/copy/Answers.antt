@@ -1,6 +1,6 @@
 use Rattle.std.proofs.Common.{sym, subst, ◌∙◌}
 use Rattle.ranked_terms.specs.SignatureRules.{IsSignature}
-use Rattle.ranked_terms.proofs.SignatureLemmas.{symbols_of-clone}
+use Rattle.ranked_terms.proofs.signatures.SignatureLemmas.{symbols_of-clone}
 use Rattle.ranked_terms.proofs.signature.Signature.copy.Goals as goal
 
 pub invariant_of-result : goal.invariant_of-result

@@ -1,5 +1,5 @@
 use Rattle.std.proofs.Common.{◌∙◌}
-use Rattle.ranked_terms.proofs.SignatureLemmas.{number_of-view, number_of-unique}
+use Rattle.ranked_terms.proofs.signatures.SignatureLemmas.{number_of-view, number_of-unique}
 use Rattle.ranked_terms.proofs.signature.Signature.find.Goals as goal
 
 pub returns-in_err-number-clause-value : goal.returns-in_err-number-clause-value

@@ -1,4 +1,4 @@
-use Rattle.ranked_terms.proofs.SignatureLemmas.{IsSignature-empty}
+use Rattle.ranked_terms.proofs.signatures.SignatureLemmas.{IsSignature-empty}
 use Rattle.ranked_terms.proofs.signature.Signature.new.Goals as goal
 
 pub invariant_of-result : goal.invariant_of-result

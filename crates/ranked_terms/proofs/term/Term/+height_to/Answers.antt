@@ -1,5 +1,5 @@
 use Rattle.std.proofs.Common.{◌≡◌, max, arith, ◌∙◌}
-use Rattle.ranked_terms.proofs.BoundLaws.{greatest_more, height_capped, max_is}
+use Rattle.ranked_terms.proofs.bindings.BoundLaws.{greatest_more, height_capped, max_is}
 use Rattle.ranked_terms.proofs.term.Term.+height_to.Goals as goal
 
 pub loop-arg-preserved : goal.loop-arg-preserved

@@ -1,7 +1,7 @@
 use Rattle.std.proofs.Common.{[], ◌∷◌, ◌++◌, ◌+◌, drop, refl, sym, ap, ◌∙◌, rules}
 use Rattle.ranked_terms.specs.Texts.{symbol_text, term_text, to_come}
 use Rattle.ranked_terms.specs.declared.term.Term.TheViews.{out-Term, the_lemmas}
-use Rattle.ranked_terms.proofs.TextLaws.{texts, text_of_term, over_argument, next_to_come, closed, not_closed, cut_start, cut_more, cut_end, cut_here, cut_inside, on_err}
+use Rattle.ranked_terms.proofs.texts.TextLaws.{texts, text_of_term, over_argument, next_to_come, closed, not_closed, cut_start, cut_more, cut_end, cut_here, cut_inside, on_err}
 use Rattle.ranked_terms.proofs.term.Term.+print_into.Goals as goal
 
 pub returns-in_err-print_name-clause-err : goal.returns-in_err-print_name-clause-err

@@ -1,6 +1,6 @@
 use Rattle.std.proofs.Common.{drop}
 use Rattle.ranked_terms.specs.Texts.{IsCutAt, term_text, to_come}
-use Rattle.ranked_terms.proofs.TextLaws.{texts}
+use Rattle.ranked_terms.proofs.texts.TextLaws.{texts}
 use Rattle.ranked_terms.proofs.term.Term.+print_into.Given as goal
 
 abbrev pub invariant-loop-arg : goal.invariant-loop-arg

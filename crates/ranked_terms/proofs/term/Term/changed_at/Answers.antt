@@ -1,7 +1,7 @@
 use Rattle.std.proofs.Common.{◌+◌, ◌-◌, drop, get_or, refl, ap, ◌∙◌}
 use Rattle.std.specs.Prelude.{IsTrue, false}
 use Rattle.ranked_terms.specs.Positions.{IsSameBut}
-use Rattle.ranked_terms.proofs.ChangeLaws.{change_down, next_change, not_replaced_by, change_here, no_pair}
+use Rattle.ranked_terms.proofs.places.ChangeLaws.{change_down, next_change, not_replaced_by, change_here, no_pair}
 use Rattle.ranked_terms.proofs.term.Term.changed_at.Goals as goal
 
 pub returns-then-not-is_same_but : goal.returns-then-not-is_same_but

@@ -4,7 +4,7 @@ use Rattle.std.specs.Cmp.Lexicographic.{slice_cmp}
 use Rattle.std.specs.List.Sorted.{IsStrictlySortedBy}
 use Rattle.std.specs.Ordering.{nat_cmp}
 use Rattle.ranked_terms.specs.Positions.{HasPosition}
-use Rattle.ranked_terms.proofs.PreorderLaws.{found_whole, positions_exact, positions_ascend}
+use Rattle.ranked_terms.proofs.places.PreorderLaws.{found_whole, positions_exact, positions_ascend}
 use Rattle.ranked_terms.proofs.term.Term.positions.Goals as goal
 
 pub returns-clause-each : goal.returns-clause-each

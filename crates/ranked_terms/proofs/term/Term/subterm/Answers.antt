@@ -1,5 +1,5 @@
 use Rattle.std.proofs.Common.{◌≤◌, ◌-◌, ◌+◌, drop, get_or, length, subst, ap, ◌∙◌, arith}
-use Rattle.ranked_terms.proofs.PositionLaws.{args_of, one_down, next_number}
+use Rattle.ranked_terms.proofs.places.PositionLaws.{args_of, one_down, next_number}
 use Rattle.ranked_terms.proofs.term.Term.subterm.Goals as goal
 
 pub loop-i-preserved : goal.loop-i-preserved

@@ -4,7 +4,7 @@ use Rattle.std.proofs.lemmas.Bool.{eq-eqb, eqb-true}
 use Rattle.ranked_terms.specs.Terms.{instance_of, occurrences, with_variable}
 use Rattle.std.specs.Prelude.{IsTrue, MatchBool, ◌↔◌}
 use Rattle.std.proofs.Common.{zero, suc, take, None}
-use Rattle.ranked_terms.proofs.MatchingLaws.{is_in-absent, bound_in-append}
+use Rattle.ranked_terms.proofs.bindings.MatchingLaws.{is_in-absent, bound_in-append}
 use Rattle.ranked_terms.specs.Matching.{is_in, with_variables, bound_in, Agrees, lookup, binding_of, or_constant, Once, IsBoundBy, IsRefused, IsInstance}
 use Rattle.ranked_terms.specs.declared.term.Term.{Term}
 use Rattle.ranked_terms.specs.declared.term.Pattern.{Pattern}

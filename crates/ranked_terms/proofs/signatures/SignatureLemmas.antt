@@ -10,7 +10,7 @@ use Rattle.indexmap.specs.IndexMap.{insert_entry}
 use Rattle.ranked_terms.specs.Words.{IsNameText}
 use Rattle.ranked_terms.specs.Names.{Symbol, names_of, name_of, number_of}
 use Rattle.ranked_terms.specs.SignatureRules.{symbols_of, IsSymbol, IsSignature}
-use Rattle.ranked_terms.proofs.SignatureLaws.{Lacks-cons, number_of-only}
+use Rattle.ranked_terms.proofs.signatures.SignatureLaws.{Lacks-cons, number_of-only}
 
 abbrev pub Entry : Type 0
 Entry = String Global × ℕ

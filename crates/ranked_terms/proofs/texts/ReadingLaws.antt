@@ -11,9 +11,9 @@ use Rattle.ranked_terms.specs.SignatureRules.{IsSignature}
 use Rattle.ranked_terms.specs.declared.term.Term.{Term}
 use Rattle.ranked_terms.specs.declared.term.Term.TheViews.{out-Term}
 use Rattle.ranked_terms.specs.lemmas.TermLaws.{is_over_node, node_out, size_node}
-use Rattle.ranked_terms.proofs.PositionLaws.{args_of}
-use Rattle.ranked_terms.proofs.TextLaws.{texts, text_node, text_of_term}
-use Rattle.ranked_terms.proofs.ReadLaws.{named_by, words_once, name_stops, name_word, argument_stops, symbol_once, term_once}
+use Rattle.ranked_terms.proofs.places.PositionLaws.{args_of}
+use Rattle.ranked_terms.proofs.texts.TextLaws.{texts, text_node, text_of_term}
+use Rattle.ranked_terms.proofs.texts.ReadLaws.{named_by, words_once, name_stops, name_word, argument_stops, symbol_once, term_once}
 
 abbrev pub sizes : List Term → ℕ
 sizes ts = sum (map size_of ts)

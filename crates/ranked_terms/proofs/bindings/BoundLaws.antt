@@ -17,8 +17,8 @@ use Rattle.ranked_terms.specs.declared.term.Pattern.{Pattern}
 use Rattle.ranked_terms.specs.declared.term.Pattern.TheVariants.{Var, App}
 use Rattle.ranked_terms.specs.lemmas.TermLaws.{instance_var, instance_app, height_node, node_out, occurrences_var, occurrences_app}
 use Rattle.ranked_terms.specs.lemmas.InstanceLaws.{instance_of-agree}
-use Rattle.ranked_terms.proofs.MatchingLaws.{agrees_at, is_in-absent}
-use Rattle.ranked_terms.proofs.BindingLaws.{own_agrees}
+use Rattle.ranked_terms.proofs.bindings.MatchingLaws.{agrees_at, is_in-absent}
+use Rattle.ranked_terms.proofs.bindings.BindingLaws.{own_agrees}
 
 -- ---- bound variables
 

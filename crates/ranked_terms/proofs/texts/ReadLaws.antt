@@ -13,9 +13,9 @@ use Rattle.ranked_terms.specs.SignatureRules.{IsSymbol, IsSignature}
 use Rattle.ranked_terms.specs.declared.term.Term.{Term}
 use Rattle.ranked_terms.specs.declared.term.Term.TheViews.{out-Term}
 use Rattle.ranked_terms.specs.lemmas.TermLaws.{term_induction, is_over_node, node_out}
-use Rattle.ranked_terms.proofs.PositionLaws.{args_of}
-use Rattle.ranked_terms.proofs.SignatureLaws.{number_of-only}
-use Rattle.ranked_terms.proofs.TextLaws.{texts, text_node}
+use Rattle.ranked_terms.proofs.places.PositionLaws.{args_of}
+use Rattle.ranked_terms.proofs.signatures.SignatureLaws.{number_of-only}
+use Rattle.ranked_terms.proofs.texts.TextLaws.{texts, text_node}
 
 -- ---- names
 

@@ -22,7 +22,7 @@ use Rattle.ranked_terms.specs.declared.term.Term.{Term}
 use Rattle.ranked_terms.specs.declared.term.Term.TheFolds.{fold-roll-Term}
 use Rattle.ranked_terms.specs.declared.term.Term.TheViews.{out-Term}
 use Rattle.ranked_terms.specs.lemmas.TermLaws.{is_over_node, node_args, node_out, term_induction}
-use Rattle.ranked_terms.proofs.PositionLaws.{args_of}
+use Rattle.ranked_terms.proofs.places.PositionLaws.{args_of}
 
 pub positions_node : (f : ℕ) (ts : List Term) → positions_of (node f ts) ≡ [] ∷ positions_below 1 (map positions_of ts)
 positions_node f ts = fold-roll-Term (List (List ℕ)) positions_step (record { sym = f; args = ts })

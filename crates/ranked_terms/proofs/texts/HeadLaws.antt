@@ -11,9 +11,9 @@ use Rattle.ranked_terms.specs.Words.{is_word_byte}
 use Rattle.ranked_terms.specs.Names.{Symbol, arity_of, number_of}
 use Rattle.ranked_terms.specs.Texts.{Text, BeginsNoSymbol, IsHead, NoWord, Stops, symbol_text}
 use Rattle.ranked_terms.specs.SignatureRules.{IsSignature}
-use Rattle.ranked_terms.proofs.SignatureLaws.{name_of-number_of, number_of-only}
-use Rattle.ranked_terms.proofs.ReadLaws.{named_by, name_text, name_word, words_once}
-use Rattle.ranked_terms.proofs.ReadingLaws.{has_symbol}
+use Rattle.ranked_terms.proofs.signatures.SignatureLaws.{name_of-number_of, number_of-only}
+use Rattle.ranked_terms.proofs.texts.ReadLaws.{named_by, name_text, name_word, words_once}
+use Rattle.ranked_terms.proofs.texts.ReadingLaws.{has_symbol}
 
 byte_is_ascii : (b : ℕ) → is_word_byte b ≡ true → b < 128
 byte_is_ascii b e = grind (arith, nat_tests)

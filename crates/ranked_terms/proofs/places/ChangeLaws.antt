@@ -9,7 +9,7 @@ use Rattle.ranked_terms.specs.declared.term.Term.{Term}
 use Rattle.ranked_terms.specs.declared.term.Term.TheViews.{out-Term}
 use Rattle.ranked_terms.specs.lemmas.TermLaws.{node_out, out_node}
 use Rattle.ranked_terms.specs.lemmas.EqLaws.{eq, eq-same, same-eq}
-use Rattle.ranked_terms.proofs.PositionLaws.{args_of, argument_is, args_are, drop-seam, one_down}
+use Rattle.ranked_terms.proofs.places.PositionLaws.{args_of, argument_is, args_are, drop-seam, one_down}
 
 -- ---- equal lists of terms
 

@@ -12,7 +12,7 @@ use Rattle.ranked_terms.specs.declared.term.Term.{Term}
 use Rattle.ranked_terms.specs.declared.term.Term.TheFolds.{fold-roll-Term}
 use Rattle.ranked_terms.specs.declared.term.Term.TheViews.{out-Term}
 use Rattle.ranked_terms.specs.lemmas.TermLaws.{is_over_node, node_out}
-use Rattle.ranked_terms.proofs.PositionLaws.{args_of}
+use Rattle.ranked_terms.proofs.places.PositionLaws.{args_of}
 
 -- ---- the text of a node
 
