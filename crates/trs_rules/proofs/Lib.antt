@@ -1,11 +1,3 @@
-pub mod StepLaws
-pub mod OverLaws
-pub mod VariableLaws
-pub mod RepeatLaws
-pub mod RuleLaws
-pub mod CountedLaws
-pub mod RootLaws
-pub mod PartLaws
-pub mod DerivationLaws
-pub mod SuccessorLaws
-pub mod DerivedLaws
+pub mod steps
+pub mod chains
+pub mod patterns

@@ -3,6 +3,7 @@ pub mod Variables
 pub mod Steps
 pub mod Laws
 pub mod Counted
+pub mod Modulo
 pub mod lemmas
 pub mod Derivations
 pub mod DerivationLaws

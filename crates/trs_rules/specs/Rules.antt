@@ -1,6 +1,7 @@
 -- Rewrite rules and equations: pairs of patterns, with their variables in order.
 use Rattle.std.specs.Prelude.{◌≡◌, ◌≢◌, ℕ, ◌≤◌, List, ◌++◌, length}
 use Rattle.std.specs.List.{AllPairs, Contains}
+use Rattle.ranked_terms.specs.Limits.{max_variables}
 use Rattle.ranked_terms.specs.Terms.{occurrences, firsts, variables_of}
 use Rattle.ranked_terms.specs.declared.term.Pattern.{Pattern}
 use Rattle.ranked_terms.specs.declared.term.Pattern.TheVariants.{Var}
@@ -29,7 +30,7 @@ pub record IsRule (rule : RewriteRule) : Type 0 where
   pub left_is_linear : IsLinear rule.left
   pub right_is_bound : IsBound rule.left rule.right
   pub vars_are : rule.vars ≡ variables_of rule.left
-  pub vars_are_few : length rule.vars ≤ 16
+  pub vars_are_few : length rule.vars ≤ max_variables
 
 -- `left = right`, with the variables of both sides in the order of an assignment
 pub record RewriteEquation : Type 0 where
@@ -40,4 +41,4 @@ pub record RewriteEquation : Type 0 where
 -- an equation (Genet and Rusu, JSC 2010) of at most 16 variables, those of the left side first
 pub record IsEquation (equation : RewriteEquation) : Type 0 where
   pub vars_are : equation.vars ≡ firsts (occurrences equation.left ++ occurrences equation.right)
-  pub vars_are_few : length equation.vars ≤ 16
+  pub vars_are_few : length equation.vars ≤ max_variables

@@ -1,5 +1,6 @@
 //! Equations.
 ghost use Rattle.std.specs.Prelude.{◌≡◌, ◌↔◌, ◌<◌, ◌++◌, length, IfOk, IsErr};
+ghost use Rattle.ranked_terms.specs.Limits.{max_variables};
 ghost use Rattle.ranked_terms.specs.Terms.{firsts, occurrences};
 ghost use Rattle.trs_rules.specs.Rules.{IsEquation};
 
@@ -36,7 +37,7 @@ impl Equation {
     pub fn new(left: Pattern, right: Pattern) -> Result<Equation, TooManyVariables>
         ensures sides { IfOk result (λ equation. (equation.left ≡ left) × (equation.right ≡ right)) }
         ensures equation { IfOk result IsEquation }
-        ensures refused { IsErr result ↔ (16 < length (firsts (occurrences left ++ occurrences right))) }
+        ensures refused { IsErr result ↔ (max_variables < length (firsts (occurrences left ++ occurrences right))) }
     {
         let variables = Variables::of_both(&left, &right)?;
         Ok(Equation {

@@ -4,6 +4,7 @@ ghost use Rattle.trs_rules.specs.DerivationLaws.{DerivationsAreChains};
 ghost use Rattle.trs_rules.specs.Laws.{PlacedStepsAreSteps, StepsArePlaced, ChainsAreTheirSteps, ChainsAppend};
 ghost use Rattle.trs_rules.specs.Laws.{LeadsToItself, StepsLead, LeadsAreTransitive, MoreRulesKeepSteps, StepsStayOver};
 ghost use Rattle.trs_rules.specs.Laws.{ChainsStayOver};
+ghost use Rattle.trs_rules.specs.Modulo.{ArgumentsLead, SidesAreEqual, EqualIsSymmetric, EqualIsModulo, LeadsIsModulo};
 
 /// A step at a position is a step.
 pub fn placed_steps_are_steps()
@@ -58,4 +59,18 @@ pub fn more_rules_keep_steps()
 pub fn steps_stay_over()
     ensures steps { StepsStayOver }
     ensures chains { ChainsStayOver }
+{}
+
+/// Where each argument leads to the one at its place, so does the term.
+pub fn arguments_lead()
+    ensures { ArgumentsLead }
+{}
+
+/// Rewriting modulo equations. Both sides of an equation are equal, whatever terms its variables stand for; what is equal to
+/// a term, the term is equal to; equal terms, and what the rules alone lead to, are led to modulo the equations.
+pub fn equations_are_both_ways()
+    ensures sides { SidesAreEqual }
+    ensures symmetric { EqualIsSymmetric }
+    ensures equal { EqualIsModulo }
+    ensures rules { LeadsIsModulo }
 {}

@@ -7,7 +7,7 @@ ghost use Rattle.trs_rules.specs.Variables.{first_repeat, first_free, IsSeen};
 use ranked_terms::Pattern;
 
 /// The first of two variables that stands in the pattern, if one of them does.
-#[tactic(auto, using(crate::proofs::VariableLaws::walking))]
+#[tactic(auto, using(crate::proofs::patterns::VariableLaws::walking))]
 fn first_of(pattern: &Pattern, v: u32, w: u32) -> Option<u32>
     ensures { result ≡ find (λ x. x == v || x == w) (occurrences pattern.now) }
 {
@@ -25,7 +25,7 @@ fn first_of(pattern: &Pattern, v: u32, w: u32) -> Option<u32>
 }
 
 /// The first variable of the pattern that does not stand in the binder.
-#[tactic(auto, using(crate::proofs::VariableLaws::walking))]
+#[tactic(auto, using(crate::proofs::patterns::VariableLaws::walking))]
 pub(crate) fn free_variable(binder: &Pattern, pattern: &Pattern) -> Option<u32>
     ensures { result ≡ first_free (occurrences binder.now) (occurrences pattern.now) }
 {
@@ -58,7 +58,7 @@ pub(crate) fn repeated_variable(pattern: &Pattern) -> Option<u32>
 
 /// Goes on in a part of the whole pattern, where `last` is the last variable that was seen. Until a variable stands a
 /// second time all are different, so that one has been there before exactly where it stands no later than the last.
-#[tactic(auto, using(crate::proofs::VariableLaws::walking))]
+#[tactic(auto, using(crate::proofs::patterns::VariableLaws::walking))]
 fn repeat_in(whole: &Pattern, part: &Pattern, last: &mut Option<u32>) -> Option<u32>
     ensures repeat { (seen rest : List ℕ) → occurrences whole.now ≡ seen ++ (occurrences part.now ++ rest) → IsSeen seen last.old
         → result ≡ first_repeat (seen ++ occurrences part.now) }

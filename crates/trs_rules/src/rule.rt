@@ -1,5 +1,6 @@
 //! Rewrite rules.
 ghost use Rattle.std.specs.Prelude.{◌≡◌, ◌↔◌, ◌<◌, ℕ, length, Err, Some, None, IfOk, All};
+ghost use Rattle.ranked_terms.specs.Limits.{max_variables};
 ghost use Rattle.ranked_terms.specs.Terms.{occurrences, variables_of};
 ghost use Rattle.trs_rules.specs.Rules.{IsRule, IsVariable, IsLinear, IsBound};
 ghost use Rattle.trs_rules.specs.Variables.{first_repeat, first_free};
@@ -65,7 +66,7 @@ impl Rule {
             × (first_free (occurrences left) (occurrences right) ≡ Some var)) }
         ensures too_many_variables { (result ≡ Err RuleFault.TooManyVariables) ↔
             ((IsVariable left → ⊥) × IsLinear left × IsBound left right
-            × (16 < length (variables_of left))) }
+            × (max_variables < length (variables_of left))) }
     {
         if let Pattern::Var(_) = left {
             return Err(RuleFault::VariableLeft);

@@ -73,7 +73,7 @@ impl Variables {
     }
 
     /// Adds each variable of a pattern that is not there.
-    #[tactic(auto, using(crate::proofs::VariableLaws::adding))]
+    #[tactic(auto, using(crate::proofs::patterns::VariableLaws::adding))]
     fn add_all(&mut self, pattern: &Pattern) -> Result<(), TooManyVariables>
         ensures ok { OnOk result (self.new ≡ fold with_variable self.old (occurrences pattern.now)) }
         ensures refused { IsErr result ↔ (16 < length (fold with_variable self.old (occurrences pattern.now))) }
@@ -84,6 +84,7 @@ impl Variables {
                 for arg in args.as_slice() {
                     self.add_all(arg)?;
                 }
+                // For the proof: there are still at most 16.
                 prove!(self.len <= 16);
                 Ok(())
             }
@@ -91,7 +92,7 @@ impl Variables {
     }
 
     /// Adds a variable, unless it is there.
-    #[tactic(auto, using(crate::proofs::VariableLaws::adding))]
+    #[tactic(auto, using(crate::proofs::patterns::VariableLaws::adding))]
     fn add(&mut self, v: u32) -> Result<(), TooManyVariables>
         ensures ok { OnOk result (self.new ≡ with_variable self.old v) }
         ensures refused { IsErr result ↔ (16 < length (with_variable self.old v)) }

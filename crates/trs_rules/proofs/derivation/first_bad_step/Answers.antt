@@ -1,7 +1,7 @@
 use Rattle.std.proofs.Common.{◌<◌, ◌≤◌, false, refl, ap, subst, ◌∙◌, length, get_or, below_more, arith}
 use Rattle.std.specs.Prelude.{IsTrue}
 use Rattle.trs_rules.specs.Derivations.{IsStepOf}
-use Rattle.trs_rules.proofs.DerivationLaws.{along_start, along_next, is_step_of, step_of_is, first_bad_at, bad_is_none, all_good, none_bad}
+use Rattle.trs_rules.proofs.chains.DerivationLaws.{along_start, along_next, is_step_of, step_of_is, first_bad_at, bad_is_none, all_good, none_bad}
 use Rattle.trs_rules.proofs.derivation.first_bad_step.Goals as goal
 
 pub returns-then-not-leads-clause-none : goal.returns-then-not-leads-clause-none

@@ -1,5 +1,5 @@
-use Rattle.trs_rules.proofs.DerivationLaws.{at_place, no_place}
-use Rattle.trs_rules.proofs.PartLaws.{root_step_of, no_rule, no_parts, same_parts}
+use Rattle.trs_rules.proofs.chains.DerivationLaws.{at_place, no_place}
+use Rattle.trs_rules.proofs.steps.PartLaws.{root_step_of, no_rule, no_parts, same_parts}
 use Rattle.trs_rules.proofs.derivation.leads.Goals as goal
 
 pub returns-in_default : goal.returns-in_default

@@ -1,4 +1,4 @@
-use Rattle.trs_rules.proofs.DerivationLaws.{decided_by}
+use Rattle.trs_rules.proofs.chains.DerivationLaws.{decided_by}
 use Rattle.trs_rules.proofs.derivation.replays.Goals as goal
 
 pub returns : goal.returns

@@ -1,4 +1,4 @@
-use Rattle.trs_rules.proofs.CountedLaws.{no_step_stays, steps_come_first, steps_come_last, counts_add_up, within_is_in_some, leads_is_in_some}
+use Rattle.trs_rules.proofs.chains.CountedLaws.{no_step_stays, steps_come_first, steps_come_last, counts_add_up, within_is_in_some, leads_is_in_some}
 use Rattle.trs_rules.proofs.laws.chains_are_counted.Goals as goal
 
 pub returns-clause-none : goal.returns-clause-none

@@ -1,4 +1,4 @@
-use Rattle.trs_rules.proofs.StepLaws.{chains_are_their_steps}
+use Rattle.trs_rules.proofs.steps.StepLaws.{chains_are_their_steps}
 use Rattle.trs_rules.proofs.laws.chains_are_their_steps.Goals as goal
 
 pub returns : goal.returns

@@ -1,4 +1,4 @@
-use Rattle.trs_rules.proofs.StepLaws.{leads_to_itself, steps_lead, leads_are_transitive}
+use Rattle.trs_rules.proofs.steps.StepLaws.{leads_to_itself, steps_lead, leads_are_transitive}
 use Rattle.trs_rules.proofs.laws.leads_is_a_preorder.Goals as goal
 
 pub returns-clause-itself : goal.returns-clause-itself

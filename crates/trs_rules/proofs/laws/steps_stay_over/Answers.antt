@@ -1,4 +1,4 @@
-use Rattle.trs_rules.proofs.OverLaws.{steps_stay_over, chains_stay_over}
+use Rattle.trs_rules.proofs.steps.OverLaws.{steps_stay_over, chains_stay_over}
 use Rattle.trs_rules.proofs.laws.steps_stay_over.Goals as goal
 
 pub returns-clause-steps : goal.returns-clause-steps

@@ -1,5 +1,5 @@
 use Rattle.std.proofs.Common.{◌==◌, ◌||◌, sym, ◌∙◌}
-use Rattle.trs_rules.proofs.VariableLaws.{found_here, found_later}
+use Rattle.trs_rules.proofs.patterns.VariableLaws.{found_here, found_later}
 use Rattle.trs_rules.proofs.occurrences.+first_of.Goals as goal
 
 pub returns-in-Some : goal.returns-in-Some

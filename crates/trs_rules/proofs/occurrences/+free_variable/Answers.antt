@@ -2,8 +2,8 @@ use Rattle.std.proofs.Common.{not, ap, sym, ◌∙◌}
 use Rattle.ranked_terms.specs.Terms.{occurrences}
 use Rattle.trs_rules.specs.Variables.{is_in}
 use Rattle.ranked_terms.specs.lemmas.TermLaws.{occurrences_var}
-use Rattle.trs_rules.proofs.RuleLaws.{bound_one, free_alone}
-use Rattle.trs_rules.proofs.VariableLaws.{found_here, found_later}
+use Rattle.trs_rules.proofs.patterns.RuleLaws.{bound_one, free_alone}
+use Rattle.trs_rules.proofs.patterns.VariableLaws.{found_here, found_later}
 use Rattle.trs_rules.proofs.occurrences.+free_variable.Goals as goal
 
 pub returns-in-Some : goal.returns-in-Some

@@ -2,8 +2,8 @@ use Rattle.std.proofs.Common.{◌≡◌, ◌++◌, ◌+◌, ◌∷◌, [], map, 
 use Rattle.ranked_terms.specs.Terms.{joined, occurrences}
 use Rattle.trs_rules.specs.Variables.{first_repeat, IsSeen}
 use Rattle.ranked_terms.specs.lemmas.TermLaws.{occurrences_var}
-use Rattle.trs_rules.proofs.VariableLaws.{occurrences_args}
-use Rattle.trs_rules.proofs.RepeatLaws.{place, repeat_here, seen_further, seen_all}
+use Rattle.trs_rules.proofs.patterns.VariableLaws.{occurrences_args}
+use Rattle.trs_rules.proofs.patterns.RepeatLaws.{place, repeat_here, seen_further, seen_all}
 use Rattle.trs_rules.proofs.occurrences.+repeat_in.Goals as goal
 
 pub returns-in-Some-clause-repeat : goal.returns-in-Some-clause-repeat

@@ -1,7 +1,7 @@
 use Rattle.std.proofs.Common.{◌≡◌, [], ◌∷◌, ◌++◌, sym, subst, ◌∙◌}
 use Rattle.ranked_terms.specs.Terms.{occurrences}
 use Rattle.trs_rules.specs.Variables.{IsSeen}
-use Rattle.trs_rules.proofs.RepeatLaws.{found_again, not_again, first_of_all, seen_more}
+use Rattle.trs_rules.proofs.patterns.RepeatLaws.{found_again, not_again, first_of_all, seen_more}
 use Rattle.trs_rules.proofs.occurrences.stands_again.Goals as goal
 
 pub returns-in_err-before-clause-repeat : goal.returns-in_err-before-clause-repeat

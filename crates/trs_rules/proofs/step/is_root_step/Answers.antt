@@ -1,7 +1,7 @@
 use Rattle.std.proofs.Common.{◌↔◌, ◌≤◌, [], length, refl, sym, subst}
 use Rattle.std.specs.Prelude.{IsTrue, false}
 use Rattle.ranked_terms.specs.Matching.{IsInstance, IsBoundBy, bound_with}
-use Rattle.trs_rules.proofs.RootLaws.{room_right, as_step, no_step}
+use Rattle.trs_rules.proofs.steps.RootLaws.{room_right, as_step, no_step}
 use Rattle.trs_rules.proofs.step.is_root_step.Goals as goal
 
 pub returns-then-not-match_term : goal.returns-then-not-match_term

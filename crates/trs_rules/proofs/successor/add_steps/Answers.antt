@@ -3,7 +3,7 @@ use Rattle.std.specs.Prelude.{◌↔◌}
 use Rattle.ranked_terms.specs.declared.term.Term.{Term}
 use Rattle.trs_rules.specs.Steps.{StepAt}
 use Rattle.trs_rules.specs.Derivations.{AreStepsUpTo}
-use Rattle.trs_rules.proofs.SuccessorLaws.{passed, stepped}
+use Rattle.trs_rules.proofs.steps.SuccessorLaws.{passed, stepped}
 use Rattle.trs_rules.proofs.successor.add_steps.Goals as goal
 use Rattle.trs_rules.proofs.successor.add_steps.Goals.{in-Some+in_ok-at+in_ok-push, in_default}
 

@@ -2,8 +2,8 @@ use Rattle.std.proofs.Common.{[], refl, sym, subst, false}
 use Rattle.std.specs.Prelude.{IsTrue, Contains}
 use Rattle.ranked_terms.specs.Terms.{occurrences}
 use Rattle.ranked_terms.specs.Matching.{IsInstance, IsBoundBy, IsInstanceBy}
-use Rattle.trs_rules.proofs.DerivationLaws.{at_place}
-use Rattle.trs_rules.proofs.SuccessorLaws.{no_position, no_match, rewritten, right_is_bound}
+use Rattle.trs_rules.proofs.chains.DerivationLaws.{at_place}
+use Rattle.trs_rules.proofs.steps.SuccessorLaws.{no_position, no_match, rewritten, right_is_bound}
 use Rattle.trs_rules.proofs.successor.rewrite_at.Goals as goal
 
 pub returns-in_default : goal.returns-in_default

@@ -1,6 +1,6 @@
 use Rattle.std.proofs.Common.{[], sym, subst}
 use Rattle.trs_rules.specs.Derivations.{AreStepsUpTo}
-use Rattle.trs_rules.proofs.SuccessorLaws.{at_none, next_rule, all_rules}
+use Rattle.trs_rules.proofs.steps.SuccessorLaws.{at_none, next_rule, all_rules}
 use Rattle.trs_rules.proofs.successor.successors.Goals as goal
 
 pub loop-i-init : goal.loop-i-init

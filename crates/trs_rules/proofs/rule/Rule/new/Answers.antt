@@ -2,7 +2,7 @@ use Rattle.std.proofs.Common.{◌≡◌, Some, refl, sym, ap, ◌∙◌}
 use Rattle.ranked_terms.specs.Terms.{occurrences, variables_of}
 use Rattle.trs_rules.specs.Variables.{first_free}
 use Rattle.trs_rules.specs.lemmas.RuleLaws.{linear_from_none, none_from_linear, bound_from_none, none_from_bound}
-use Rattle.trs_rules.proofs.RuleLaws.{no_more}
+use Rattle.trs_rules.proofs.patterns.RuleLaws.{no_more}
 use Rattle.trs_rules.proofs.rule.Rule.new.Goals as goal
 
 made : goal.invariant_of-result

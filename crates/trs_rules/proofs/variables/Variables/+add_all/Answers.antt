@@ -1,5 +1,5 @@
 use Rattle.std.proofs.Common.{rules, refl}
-use Rattle.trs_rules.proofs.VariableLaws.{over_full}
+use Rattle.trs_rules.proofs.patterns.VariableLaws.{over_full}
 use Rattle.trs_rules.proofs.variables.Variables.+add_all.Goals as goal
 
 pub returns-in_err-add_all-in-App-clause-refused : goal.returns-in_err-add_all-in-App-clause-refused

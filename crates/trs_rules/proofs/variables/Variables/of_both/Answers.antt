@@ -1,6 +1,6 @@
 use Rattle.std.proofs.Common.{rules, refl, ap, subst, fold, ◌<◌, length}
 use Rattle.ranked_terms.specs.Terms.{occurrences, with_variable}
-use Rattle.trs_rules.proofs.VariableLaws.{both_over_full}
+use Rattle.trs_rules.proofs.patterns.VariableLaws.{both_over_full}
 use Rattle.trs_rules.proofs.variables.Variables.of_both.Goals as goal
 
 pub returns-in_err-add_all-clause-refused : goal.returns-in_err-add_all-clause-refused

@@ -8,9 +8,9 @@ use Rattle.trs_rules.specs.Derivations.{IsDerivation, LeadsTo}
 use Rattle.trs_rules.specs.DerivationLaws.{IsDerivedIn, DerivationsAreChains}
 use Rattle.trs_rules.specs.declared.derivation.DStep.{DStep}
 use Rattle.trs_rules.specs.declared.derivation.Derivation.{Derivation}
-use Rattle.trs_rules.proofs.StepLaws.{placed_steps_are_steps, steps_are_placed}
-use Rattle.trs_rules.proofs.CountedLaws.{no_step_stays, steps_come_first}
-use Rattle.trs_rules.proofs.DerivationLaws.{step_of_is}
+use Rattle.trs_rules.proofs.steps.StepLaws.{placed_steps_are_steps, steps_are_placed}
+use Rattle.trs_rules.proofs.chains.CountedLaws.{no_step_stays, steps_come_first}
+use Rattle.trs_rules.proofs.chains.DerivationLaws.{step_of_is}
 
 same_some : {X : Type 0} (x y : X) → Some x ≡ Some y → x ≡ y
 same_some x y e = cc

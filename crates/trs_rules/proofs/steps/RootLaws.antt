@@ -6,7 +6,7 @@ use Rattle.ranked_terms.specs.Terms.{occurrences}
 use Rattle.ranked_terms.specs.declared.term.Term.{Term}
 use Rattle.ranked_terms.specs.lemmas.VariableLaws.{occurrences-in_variables_of}
 use Rattle.trs_rules.specs.Rules.{RewriteRule, IsRule}
-use Rattle.trs_rules.proofs.VariableLaws.{with_old}
+use Rattle.trs_rules.proofs.patterns.VariableLaws.{with_old}
 use Rattle.ranked_terms.specs.Matching.{IsInstance, IsBoundBy, bound_in, bound_with, with_variables}
 use Rattle.trs_rules.specs.Derivations.{IsStepBy}
 

@@ -18,7 +18,7 @@ use Rattle.trs_rules.specs.Rules.{RewriteRule, IsRule}
 use Rattle.trs_rules.specs.Steps.{StepAt}
 use Rattle.trs_rules.specs.Derivations.{AreSuccessors, AreStepsUpTo, IsTried, successor_order}
 use Rattle.trs_rules.specs.declared.successor.Successor.{Successor}
-use Rattle.trs_rules.proofs.PartLaws.{parts_of_step, step_of_parts}
+use Rattle.trs_rules.proofs.steps.PartLaws.{parts_of_step, step_of_parts}
 
 -- ---- one rule at one position
 

@@ -10,7 +10,7 @@ use Rattle.ranked_terms.specs.Terms.{joined, occurrences}
 use Rattle.ranked_terms.specs.declared.term.Pattern.{Pattern}
 use Rattle.trs_rules.specs.Variables.{is_in, repeat_after, first_repeat, IsSeen}
 use Rattle.list_laws.proofs.Ends.{last_append, cut_last}
-use Rattle.trs_rules.proofs.VariableLaws.{args_more}
+use Rattle.trs_rules.proofs.patterns.VariableLaws.{args_more}
 
 -- ---- tests
 

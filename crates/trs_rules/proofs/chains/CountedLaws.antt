@@ -5,7 +5,7 @@ use Rattle.ranked_terms.specs.declared.term.Term.{Term}
 use Rattle.trs_rules.specs.Rules.{RewriteRule}
 use Rattle.trs_rules.specs.Steps.{Step, Chain, one, more}
 use Rattle.trs_rules.specs.Counted.{LeadsIn, NoStepStays, StepsComeFirst, StepsComeLast, CountsAddUp, WithinIsInSome, LeadsIsInSome}
-use Rattle.trs_rules.proofs.StepLaws.{chains_append}
+use Rattle.trs_rules.proofs.steps.StepLaws.{chains_append}
 
 module _ (R : List RewriteRule) where
   stay : (t : Term) → LeadsIn R 0 t t

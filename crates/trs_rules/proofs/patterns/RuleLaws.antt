@@ -7,7 +7,7 @@ use Rattle.ranked_terms.specs.declared.term.Pattern.{Pattern}
 use Rattle.trs_rules.specs.Rules.{IsVariable}
 use Rattle.trs_rules.specs.Variables.{is_in, first_repeat, first_free}
 use Rattle.ranked_terms.specs.lemmas.TermLaws.{occurrences_var}
-use Rattle.trs_rules.proofs.RepeatLaws.{either}
+use Rattle.trs_rules.proofs.patterns.RepeatLaws.{either}
 use Rattle.std.specs.Option.{is_some}
 
 -- ---- one variable
