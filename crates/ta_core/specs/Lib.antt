@@ -1,4 +1,5 @@
 pub mod Orders
+pub mod Limits
 pub mod TreeAutomaton
 pub mod Runs
 pub mod Languages
@@ -11,4 +12,8 @@ pub mod Reached
 pub mod Acceptance
 pub mod AcceptanceLaws
 pub mod Meeting
+pub mod Coherence
+pub mod Singular
+pub mod Growth
+pub mod KeptAside
 pub mod lemmas

@@ -1,6 +1,7 @@
 -- What always holds of a specification, as tests. This project's own format.
 use Rattle.std.specs.Prelude.{ℕ, Bool, true, ◌&&◌, nat_lt, nat_le, List, [], ◌∷◌, ◌++◌, length}
 use Rattle.std.specs.List.{list_all}
+use Rattle.ranked_terms.specs.Limits.{max_variables}
 use Rattle.ranked_terms.specs.Names.{Symbol}
 use Rattle.ranked_terms.specs.Terms.{is_symbol, pattern_is_over, joined, firsts}
 use Rattle.ranked_terms.specs.declared.term.Shape.{Shape}
@@ -58,7 +59,7 @@ abbrev pub entry_variables : Entry → List ℕ
 entry_variables e = firsts (shape_occurrences e.whole ++ (shape_occurrences e.at ++ shape_occurrences e.node))
 
 abbrev pub entries_are_small : List Entry → Bool
-entries_are_small entries = list_all (λ e. nat_le (length (entry_variables e)) 16) entries
+entries_are_small entries = list_all (λ e. nat_le (length (entry_variables e)) max_variables) entries
 
 -- each transition's symbol is in the signature, with as many arguments as its arity says
 abbrev pub automaton_is_over : List Symbol → TreeAutomaton → Bool

@@ -4,6 +4,7 @@ use Rattle.std.specs.declared.cmp.Ordering.{Ordering}
 use Rattle.std.specs.List.{Contains, All}
 use Rattle.std.specs.Ordering.{nat_cmp, ordering_then}
 use Rattle.std.specs.Cmp.Lexicographic.{slice_cmp}
+use Rattle.ta_core.specs.Limits.{max_states}
 use Rattle.ta_core.specs.declared.trans.Trans.{Trans}
 
 -- the states, the number that the next state gets, the final states, the transitions, and the epsilon transitions `p -> q` as pairs
@@ -55,4 +56,4 @@ pub record IsSound (A : TreeAutomaton) : Type 0 where
 -- an automaton as its type keeps it: `next` is at most 16,384 besides
 pub record IsKept (A : TreeAutomaton) : Type 0 where
   pub sound : IsSound A
-  pub few : A.next ≤ 16384
+  pub few : A.next ≤ max_states

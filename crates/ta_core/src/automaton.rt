@@ -5,6 +5,7 @@ ghost use Rattle.std.specs.Ordering.{nat_cmp};
 ghost use Rattle.std.specs.List.Sorted.{IsStrictlySortedBy};
 ghost use Rattle.std.specs.BTreeSet.{insert_key};
 ghost use Rattle.list_laws.specs.Lists.{IsUnion};
+ghost use Rattle.ta_core.specs.Limits.{max_states};
 ghost use Rattle.ta_core.specs.TreeAutomaton.{IsSound, IsTransOf, IsEpsOf, bare, trans_of, trans_cmp, pair_cmp};
 
 use crate::args::Args;
@@ -81,7 +82,7 @@ impl Automaton {
     /// The automaton of these states and this `next` alone, with no final state and no transition. The only error is
     /// running out of memory.
     pub fn with_states(alloc: Global, next: u32, states: &[u32]) -> Result<Automaton, AllocError>
-        requires few { next ≤ 16384 }
+        requires few { next ≤ max_states }
         requires ascend { IsStrictlySortedBy nat_cmp states.now }
         requires below { All (λ q. q < next) states.now }
         ensures { IfOk result (λ automaton. automaton ≡ bare next states.now) }
@@ -95,6 +96,34 @@ impl Automaton {
             trans: Sorted::new(alloc),
             eps: Sorted::new(alloc),
         })
+    }
+
+    /// The automaton of exactly these lists, each of them in its order and without doubles, whose parts name states of the list.
+    /// It takes no memory: it keeps the lists as they are, and grows by `alloc`.
+    pub fn from_lists(
+        alloc: Global,
+        next: u32,
+        states: Seq<u32>,
+        finals: Seq<u32>,
+        trans: Seq<Trans>,
+        eps: Seq<(u32, u32)>,
+    ) -> Automaton
+        requires few { next ≤ max_states }
+        requires sound { IsSound (record { states = states; next = next; finals = finals; trans = trans; eps = eps }) }
+        requires states { IsStrictlySortedBy nat_cmp states }
+        requires finals { IsStrictlySortedBy nat_cmp finals }
+        requires trans { IsStrictlySortedBy trans_cmp trans }
+        requires eps { IsStrictlySortedBy pair_cmp eps }
+        ensures { result ≡ record { states = states; next = next; finals = finals; trans = trans; eps = eps } }
+    {
+        Automaton {
+            alloc,
+            states: Sorted::from_vec(states.into_vec()),
+            next,
+            finals: Sorted::from_vec(finals.into_vec()),
+            trans: Sorted::from_vec(trans.into_vec()),
+            eps: Sorted::from_vec(eps.into_vec()),
+        }
     }
 
     /// An equal automaton. The only error is running out of memory.
@@ -142,7 +171,7 @@ impl Automaton {
     /// The number that the next state gets, above all states.
     pub fn next(&self) -> u32
         ensures value { result ≡ self.now.next }
-        ensures few { self.now.next ≤ 16384 }
+        ensures few { self.now.next ≤ max_states }
         ensures sound { IsSound self.now }
     {
         self.next
@@ -169,7 +198,7 @@ impl Automaton {
     /// The epsilon transitions `p -> q` as pairs, in ascending order.
     pub fn eps(&self) -> &[(u32, u32)]
         ensures value { result.now ≡ self.now.eps }
-        ensures few { self.now.next ≤ 16384 }
+        ensures few { self.now.next ≤ max_states }
         ensures sorted { IsStrictlySortedBy pair_cmp self.now.eps }
         ensures sound { IsSound self.now }
     {
@@ -182,7 +211,7 @@ impl Automaton {
         ensures number { IfOk result (λ q. q ≡ self.old.next) }
         ensures ok { OnOk result (self.new ≡
             record self.old { states = self.old.states ++ self.old.next ∷ []; next = self.old.next + 1 }) }
-        ensures full { IsErrOf result StateError.Full ↔ (self.old.next ≡ 16384) }
+        ensures full { IsErrOf result StateError.Full ↔ (self.old.next ≡ max_states) }
         ensures err { OnErr result (self.new ≡ self.old) }
     {
         if self.next == MAX_STATES {
@@ -236,8 +265,8 @@ impl Automaton {
         self.finals.insert(q)
     }
 
-    /// Adds many transitions, in any order and as often as they stand there, by one sort of all. When memory runs out the
-    /// automaton is as before.
+    /// Adds many transitions, in any order and as often as they stand there: they are sorted, and merged with those that are
+    /// there. When memory runs out the automaton is as before.
     pub fn add_all_trans(&mut self, more: Seq<Trans>) -> Result<(), AllocError>
         requires { All (IsTransOf self.old.states) more }
         ensures members { OnOk result (IsUnion self.old.trans more self.new.trans) }
@@ -248,8 +277,8 @@ impl Automaton {
         self.trans.add_all(more.into_vec())
     }
 
-    /// Adds many epsilon transitions from a state to another one, in any order and as often as they stand there, by one sort
-    /// of all. When memory runs out the automaton is as before.
+    /// Adds many epsilon transitions from a state to another one, in any order and as often as they stand there: they are
+    /// sorted, and merged with those that are there. When memory runs out the automaton is as before.
     pub fn add_all_eps(&mut self, more: Seq<(u32, u32)>) -> Result<(), AllocError>
         requires { All (IsEpsOf self.old.states) more }
         ensures members { OnOk result (IsUnion self.old.eps more self.new.eps) }
@@ -260,8 +289,8 @@ impl Automaton {
         self.eps.add_all(more.into_vec())
     }
 
-    /// Makes many states final, in any order and as often as they stand there, by one sort of all. When memory runs out the
-    /// automaton is as before.
+    /// Makes many states final, in any order and as often as they stand there: they are sorted, and merged with those that
+    /// are there. When memory runs out the automaton is as before.
     pub fn set_all_final(&mut self, more: Seq<u32>) -> Result<(), AllocError>
         requires { All (Contains self.old.states) more }
         ensures members { OnOk result (IsUnion self.old.finals more self.new.finals) }

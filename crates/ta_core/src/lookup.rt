@@ -1,5 +1,6 @@
 //! The transitions of a symbol and the epsilon transitions of a state, found by binary search.
 ghost use Rattle.std.specs.Prelude.{◌≡◌, ◌≤◌, ◌↔◌, ℕ, List, ◌++◌, Contains};
+ghost use Rattle.ta_core.specs.Limits.{max_states};
 ghost use Rattle.ta_core.specs.TreeAutomaton.{IsSound};
 ghost use Rattle.ta_core.specs.Orders.{rank_of};
 ghost use Rattle.ta_core.specs.declared.trans.Trans.{Trans as Transition};
@@ -38,7 +39,7 @@ impl Automaton {
     pub fn eps_from(&self, state: u32) -> &[(u32, u32)]
         ensures members { (e : ℕ × ℕ) → Contains result.now e ↔ (Contains self.now.eps e × (e.0 ≡ state)) }
         ensures sound { IsSound self.now }
-        ensures few { self.now.next ≤ 16384 }
+        ensures few { self.now.next ≤ max_states }
     {
         let all = self.eps();
         let start = all.partition_point(|pair| pair.0 < state);

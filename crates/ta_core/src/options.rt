@@ -1,5 +1,6 @@
 //! The options of completion and search.
 ghost use Rattle.std.specs.Prelude.{◌≡◌, ◌≤◌};
+ghost use Rattle.ta_core.specs.Limits.{max_states};
 
 /// How far completion and the bounded search go. Each number is in its range at every moment.
 #[derive(Debug, Clone, Copy, PartialEq, Eq)]
@@ -21,7 +22,7 @@ pub struct Options {
     pub ghost height_range: { (1 ≤ height) × (height ≤ 50) },
     pub ghost terms_range: { (1 ≤ terms) × (terms ≤ 50000) },
     pub ghost pairs_range: { pairs ≤ 1000000 },
-    pub ghost states_range: { (1 ≤ states) × (states ≤ 16384) },
+    pub ghost states_range: { (1 ≤ states) × (states ≤ max_states) },
 }
 
 impl Default for Options {

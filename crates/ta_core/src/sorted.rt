@@ -39,6 +39,14 @@ impl<T: Ord> Sorted<T> {
         }
     }
 
+    /// The set of the members of a list that ascends strictly.
+    pub fn from_vec(items: Vec<T>) -> Self
+        requires { IsStrictlySortedBy T.cmp items.items }
+        ensures { result ≡ items.items }
+    {
+        Sorted { items }
+    }
+
     /// The members in ascending order.
     pub fn as_slice(&self) -> &[T]
         ensures value { result.now ≡ self.now }
@@ -64,16 +72,22 @@ impl<T: Ord + Drop> Sorted<T> {
         }
     }
 
-    /// Adds many members, in any order and as often as they stand there, by one sort of all. When memory runs out the set
-    /// stays as it was.
+    /// Adds many members, in any order and as often as they stand there: they are sorted, and merged with those that are
+    /// there. When memory runs out the set stays as it was.
     pub fn add_all(&mut self, mut more: Vec<T>) -> Result<(), AllocError>
         requires { (x y : T) → T.cmp x y ≡ Equal → x ≡ y }
         ensures members { OnOk result (IsUnion self.old more.items self.new) }
         ensures sorted { OnOk result (IsStrictlySortedBy T.cmp self.new) }
         ensures err { OnErr result (self.new ≡ self.old) }
     {
+        more.sort_unstable();
+        let len = self.items.len();
         self.items.append(&mut more)?;
-        self.items.sort_unstable();
+        // Two lists in order stand one behind the other now: the stable sort merges them.
+        if self.items.sort().is_err() {
+            self.items.truncate(len);
+            return Err(AllocError);
+        }
         self.items.dedup();
         Ok(())
     }

@@ -1,6 +1,7 @@
 //! Specifications.
 ghost use Rattle.std.specs.Prelude.{◌≡◌, ◌+◌, ◌≤◌, [], false, IsTrue};
 ghost use Rattle.std.specs.List.{range_with_len};
+ghost use Rattle.ta_core.specs.Limits.{max_states};
 ghost use Rattle.ta_core.specs.SpecRules.{rules_are_over, equations_are_over, entries_are_over, entries_are_below};
 ghost use Rattle.ta_core.specs.SpecRules.{entries_are_small, automaton_is_over};
 
@@ -40,7 +41,7 @@ pub struct Spec {
     pub ghost initial_states: { initial.states ≡ range_with_len 0 initial.next },
     pub ghost forbidden_states: { forbidden.states ≡ range_with_len 0 forbidden.next },
     // The approximation's states are few, and an entry names only these and the initial automaton's.
-    pub ghost few_states: { initial.next + extra ≤ 16384 },
+    pub ghost few_states: { initial.next + extra ≤ max_states },
     pub ghost entries_below: { IsTrue (entries_are_below (initial.next + extra) entries) },
     // An entry has at most 16 variables.
     pub ghost entries_small: { IsTrue (entries_are_small entries) },

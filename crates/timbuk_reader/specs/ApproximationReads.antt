@@ -1,6 +1,7 @@
 -- What the functions that read approximations do.
 use Rattle.std.specs.Prelude.{◌≡◌, ◌+◌, ◌<◌, ◌≤◌, ℕ, zero, suc, Bool, true, ◌||◌, if◌then◌else◌, nat_lt, List, [], ◌∷◌, ◌++◌, length, map, Some, IsTrue}
 use Rattle.std.specs.List.{list_all}
+use Rattle.ranked_terms.specs.Limits.{max_variables}
 use Rattle.ranked_terms.specs.Names.{arity_of}
 use Rattle.ranked_terms.specs.Terms.{joined}
 use Rattle.ranked_terms.specs.declared.term.Shape.{Shape}
@@ -111,7 +112,7 @@ pub record StopsLeaf (p : Role) (own : List ℕ) (old : Reader) (e : SpecError) 
 
 -- whether a variable may stand where these are bound and these are the entry's own
 abbrev pub has_room : List ℕ → List ℕ → ℕ → Bool
-has_room bound own v = has bound v || (has own v || nat_lt (length bound + length own) 16)
+has_room bound own v = has bound v || (has own v || nat_lt (length bound + length own) max_variables)
 
 -- a variable that may stand there, or a state of the initial automaton or of the approximation
 abbrev pub IsLeaf : List ℕ → Reader → Leaf → Type 0
@@ -163,7 +164,7 @@ pub record IsStarted (r : Reader) (e : StartedEntry) : Type 0 where
   pub form : IsForm r e.form
   pub arity : arity_of r.signature e.sym ≡ Some e.arity
   pub args : AreArguments r (r.bound ++ e.own) e.args
-  pub few : length r.bound + length e.own ≤ 16
+  pub few : length r.bound + length e.own ≤ max_variables
 
 -- the same head
 pub record SameHead (old new : StartedEntry) : Type 0 where

@@ -1,6 +1,7 @@
 -- What always holds of the rules, transitions and states that were read, mostly as tests.
 use Rattle.std.specs.Prelude.{◌≡◌, ◌≤◌, ℕ, Bool, ◌&&◌, nat_lt, List, length, None}
 use Rattle.std.specs.List.{list_all}
+use Rattle.ranked_terms.specs.Limits.{max_variables}
 use Rattle.ranked_terms.specs.Names.{Symbol}
 use Rattle.ranked_terms.specs.Terms.{is_symbol, occurrences, variables_of}
 use Rattle.trs_rules.specs.Rules.{RewriteRule, IsVariable, IsLinear}
@@ -29,4 +30,4 @@ pub record IsKeptRule (rule : RewriteRule) : Type 0 where
   pub left_is_linear : IsLinear rule.left
   pub none_free : first_free (occurrences rule.left) (occurrences rule.right) ≡ None
   pub vars_are : rule.vars ≡ variables_of rule.left
-  pub vars_are_few : length rule.vars ≤ 16
+  pub vars_are_few : length rule.vars ≤ max_variables
