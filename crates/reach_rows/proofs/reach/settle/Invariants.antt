@@ -1,0 +1,15 @@
+use Rattle.std.proofs.Common.{◌≡◌, ◌≤◌, length}
+use Rattle.reach_rows.specs.Tables.{AreReaching, AreWide, rows_left}
+use Rattle.reach_rows.proofs.reach.settle.Given as goal
+
+abbrev pub invariant-loop-rows : goal.invariant-loop-rows
+invariant-loop-rows l = record {
+  reaching : AreReaching l.edges l.rows;
+  at_most : rows_left l.rows ≤ rows_left l.fn.rows;
+  long : length l.rows ≡ length l.fn.rows;
+  wide : AreWide (length l.spare) l.rows;
+  spare : length l.spare ≡ length l.fn.spare;
+}
+
+abbrev pub decreases-loop-rows : goal.decreases-loop-rows
+decreases-loop-rows l = rows_left l.rows
