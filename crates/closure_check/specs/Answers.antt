@@ -35,3 +35,7 @@ Answers spec A h answer.Yes = IsAccepted spec A h
 Answers spec A h (answer.NotContained missing) = IsFirstMissing spec.initial A h missing
 Answers spec A h (answer.Open pair) = IsContained spec.initial A h × IsFirstOpen A spec.rules pair
 Answers spec A h (answer.Meets p q) = IsContained spec.initial A h × Closed A spec.rules × IsLeastMeeting A spec.forbidden p q
+
+-- there is at most one
+abbrev pub HasOneAnswer : Spec → TreeAutomaton → List ℕ → Type 0
+HasOneAnswer spec A h = (x y : Answer) → Answers spec A h x → Answers spec A h y → x ≡ y

@@ -1,5 +1,5 @@
 -- How much room the check of a specification and an automaton takes.
-use Rattle.std.specs.Prelude.{ℕ, ◌+◌, ◌^◌, ◌<◌, ◌≤◌, All, max, List, [], ◌∷◌, length}
+use Rattle.std.specs.Prelude.{◌≡◌, ℕ, ◌+◌, ◌^◌, ◌<◌, ◌≤◌, All, max, List, [], ◌∷◌, length}
 use Rattle.ranked_terms.specs.declared.term.Pattern.{Pattern}
 use Rattle.ranked_terms.specs.declared.term.Pattern.TheOpen as pattern
 use Rattle.ranked_terms.specs.declared.term.Pattern.TheFolds.{fold-Pattern}
@@ -9,10 +9,13 @@ use Rattle.ta_core.specs.declared.trans.Trans.{Trans}
 use Rattle.ta_core.specs.declared.spec.Spec.{Spec}
 use Rattle.ta_clean.specs.Uses.{places_of}
 
--- sets at one time of so many states; and marks for pairs of states of the automaton and the forbidden one, with the argument places of both
+-- sets at one time of so many states; tables of what epsilon transitions lead to, from so many states and back, and so many of them turned round; and marks for pairs of states of the automaton and the forbidden one, with the argument places of both
 pub record Sizes : Type 0 where
   pub sets : ℕ
   pub states : ℕ
+  pub reached : ℕ
+  pub reached_back : ℕ
+  pub turned : ℕ
   pub paired_states : ℕ
   pub places : ℕ
   pub forbidden_states : ℕ
@@ -45,6 +48,12 @@ pub record IsCountable (spec : Spec) : Type 0 where
   pub eps : length spec.initial.eps < 2 ^ 32
   pub rules : length spec.rules < 2 ^ 32
 
+-- only an automaton with epsilon transitions needs tables of what they lead to
+pub record HasTables (room : Sizes) (A : TreeAutomaton) : Type 0 where
+  pub reached : ¬ (length A.eps ≡ 0) → A.next ≤ room.reached
+  pub reached_back : ¬ (length A.eps ≡ 0) → A.next ≤ room.reached_back
+  pub turned : length A.eps ≤ room.turned
+
 -- a room of at least these sizes is enough
 pub record Fits (room : Sizes) (spec : Spec) (A : TreeAutomaton) : Type 0 where
   pub countable : IsCountable spec
@@ -54,6 +63,7 @@ pub record Fits (room : Sizes) (spec : Spec) (A : TreeAutomaton) : Type 0 where
   pub arguments : All (λ (t : Trans). length t.args < room.sets) spec.initial.trans
   pub sets : sets_of_rules spec.rules ≤ room.sets
   pub states : A.next ≤ room.states
+  pub tables : HasTables room A
   pub paired_states : A.next ≤ room.paired_states
   pub places : places_of A.trans ≤ room.places
   pub forbidden_states : spec.forbidden.next ≤ room.forbidden_states

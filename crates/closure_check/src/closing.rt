@@ -14,10 +14,10 @@ ghost use Rattle.closure_check.specs.Searching.{IsApart, IsShared, OpensFirst, S
 
 use crate::candidates::find_candidates;
 use crate::marks::Marks;
+use crate::prepared::Prepared;
 use crate::running::{has_state, run_pattern};
 use arrayvec::ArrayVec;
 use std::alloc::Global;
-use ta_core::Automaton;
 use ta_core::laws::closed_automata_have_no_open_pair;
 use trs_rules::{Pair, Rule, Sigma};
 
@@ -25,7 +25,7 @@ use trs_rules::{Pair, Rule, Sigma};
 pub(crate) fn first_open(
     alloc: Global,
     sets: &mut [Marks],
-    automaton: &Automaton,
+    automaton: &Prepared,
     rules: &[Rule],
 ) -> Option<Pair>
     requires few { length rules.now < 2 ^ 32 }
@@ -60,7 +60,7 @@ pub(crate) fn first_open(
 /// then this assignment; where there is no open pair they are as before.
 fn first_open_from(
     sets: &mut [Marks],
-    automaton: &Automaton,
+    automaton: &Prepared,
     rule: &Rule,
     states: &mut ArrayVec<u32, 16>,
     more: usize,
@@ -99,7 +99,7 @@ fn first_open_from(
 /// The first open state of the rule with this assignment.
 fn first_open_in(
     sets: &mut [Marks],
-    automaton: &Automaton,
+    automaton: &Prepared,
     rule: &Rule,
     states: &[u32],
 ) -> Option<u32>
@@ -123,7 +123,7 @@ fn first_open_in(
 }
 
 /// The first state that is a member of the one set and not of the other. The one set is left in ascending order.
-fn first_apart(left: &mut Marks, right: &Marks, automaton: &Automaton) -> Option<u32>
+fn first_apart(left: &mut Marks, right: &Marks, automaton: &Prepared) -> Option<u32>
     ensures some { IfSome result (IsFirst (IsApart left.old.members right.now.members)
         (IsShared left.old.members right.now.members) automaton.now.states) }
     ensures none { IfNone result (All (IsShared left.old.members right.now.members) automaton.now.states) }

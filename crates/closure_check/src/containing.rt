@@ -7,6 +7,7 @@ ghost use Rattle.closure_check.specs.Marking.{Marked, HasRoom};
 
 use crate::answer::Missing;
 use crate::marks::Marks;
+use crate::prepared::Prepared;
 use crate::running::{run_app, run_state};
 use ta_core::{Automaton, Trans};
 
@@ -14,7 +15,7 @@ use ta_core::{Automaton, Trans};
 pub(crate) fn first_missing(
     sets: &mut [Marks],
     initial: &Automaton,
-    automaton: &Automaton,
+    automaton: &Prepared,
     images: &[u32],
 ) -> Option<Missing>
     requires arguments { All (λ (t : Transition). length t.args < length sets.old) initial.now.trans }
@@ -44,7 +45,7 @@ pub(crate) fn first_missing(
 fn first_trans(
     sets: &mut [Marks],
     trans: &[Trans],
-    automaton: &Automaton,
+    automaton: &Prepared,
     images: &[u32],
 ) -> Option<u32>
     requires arguments { All (λ (t : Transition). length t.args < length sets.old) trans.now }
@@ -68,7 +69,7 @@ fn first_trans(
 fn first_eps(
     sets: &mut [Marks],
     eps: &[(u32, u32)],
-    automaton: &Automaton,
+    automaton: &Prepared,
     images: &[u32],
 ) -> Option<u32>
     requires some { 0 < length sets.old }
@@ -89,7 +90,7 @@ fn first_eps(
 }
 
 /// The first of the states that goes to no final state.
-fn first_final(finals: &[u32], automaton: &Automaton, images: &[u32]) -> Option<u32>
+fn first_final(finals: &[u32], automaton: &Prepared, images: &[u32]) -> Option<u32>
     ensures some { IfSome result (λ state. FailsFirst (FinalHolds automaton.now images.now) finals.now state) }
     ensures none { IfNone result (All (FinalHolds automaton.now images.now) finals.now) }
 {
@@ -102,7 +103,7 @@ fn first_final(finals: &[u32], automaton: &Automaton, images: &[u32]) -> Option<
 }
 
 /// Whether the transition, with its states mapped, is a run of the automaton.
-fn trans_holds(sets: &mut [Marks], t: &Trans, automaton: &Automaton, images: &[u32]) -> bool
+fn trans_holds(sets: &mut [Marks], t: &Trans, automaton: &Prepared, images: &[u32]) -> bool
     requires arguments { length t.now.args < length sets.old }
     requires room { All (HasRoom automaton.now) sets.old }
     ensures holds { IsTrue result ↔ TransHolds automaton.now images.now t.now }
@@ -120,7 +121,7 @@ fn trans_holds(sets: &mut [Marks], t: &Trans, automaton: &Automaton, images: &[u
 }
 
 /// Whether the epsilon transition, with its states mapped, is a run of the automaton.
-fn eps_holds(set: &mut Marks, from: u32, to: u32, automaton: &Automaton, images: &[u32]) -> bool
+fn eps_holds(set: &mut Marks, from: u32, to: u32, automaton: &Prepared, images: &[u32]) -> bool
     requires { HasRoom automaton.now set.old }
     ensures holds { IsTrue result ↔ EpsHolds automaton.now images.now (from, to) }
     ensures size { set.new.size ≡ set.old.size }
@@ -130,7 +131,7 @@ fn eps_holds(set: &mut Marks, from: u32, to: u32, automaton: &Automaton, images:
 }
 
 /// Whether the state goes to a final state.
-fn final_holds(state: u32, automaton: &Automaton, images: &[u32]) -> bool
+fn final_holds(state: u32, automaton: &Prepared, images: &[u32]) -> bool
     ensures { IsTrue result ↔ FinalHolds automaton.now images.now state }
 {
     automaton

@@ -1,5 +1,5 @@
 //! Whether there is enough room. Nothing is added up, so no sum can grow too large.
-ghost use Rattle.std.specs.Prelude.{◌↔◌, ◌+◌, ◌<◌, ◌≤◌, length, All, IsTrue};
+ghost use Rattle.std.specs.Prelude.{◌≡◌, ◌↔◌, ◌+◌, ◌-◌, ◌^◌, ◌<◌, ◌≤◌, ℕ, max, length, All, IsTrue};
 ghost use Rattle.ta_core.specs.declared.trans.Trans.{Trans as Transition};
 ghost use Rattle.closure_check.specs.Rooms.{sets_of, sets_of_sides, sets_of_rules, IsCountable};
 
@@ -74,41 +74,72 @@ pub(crate) fn arguments_fit(trans: &[Trans], count: usize) -> bool
     true
 }
 
-/// How many sets the rules and the transitions take. It is only asked for; whether it is enough is tested after.
-pub(crate) fn sets_for(rules: &[Rule], trans: &[Trans]) -> usize {
+/// How many sets the rules and the transitions take, which is no more than is enough. Where there is no number of 64 bits for
+/// that, it may be too few, so whether it is enough is tested after.
+pub(crate) fn sets_for(rules: &[Rule], trans: &[Trans]) -> usize
+    ensures some { 0 < result }
+    ensures rules { result < 2 ^ 64 - 1 → sets_of_rules rules.now ≤ result }
+    ensures arguments { result < 2 ^ 64 - 1 → All (λ (t : Transition). length t.args < result) trans.now }
+    ensures least { (n : ℕ) → 0 < n → sets_of_rules rules.now ≤ n →
+        All (λ (t : Transition). length t.args < n) trans.now → result ≤ n }
+{
+    greater(sets_for_rules(rules), sets_for_arguments(trans))
+}
+
+fn sets_for_arguments(trans: &[Trans]) -> usize
+    ensures some { 0 < result }
+    ensures enough { result < 2 ^ 64 - 1 → All (λ (t : Transition). length t.args < result) trans.now }
+    ensures least { (n : ℕ) → 0 < n → All (λ (t : Transition). length t.args < n) trans.now → result ≤ n }
+{
     let mut most = 1;
-    for rule in rules {
-        let left = sets_for_pattern(rule.left());
-        let right = sets_for_pattern(rule.right()).saturating_add(1);
-        let sides = if left < right { right } else { left };
-        let count = sides.saturating_add(rule.vars().len());
-        if most < count {
-            most = count;
-        }
-    }
     for t in trans {
-        let count = t.args.as_slice().len().saturating_add(1);
-        if most < count {
-            most = count;
-        }
+        most = greater(most, t.args.as_slice().len().saturating_add(1));
     }
     most
 }
 
-fn sets_for_pattern(pattern: &Pattern) -> usize {
+fn sets_for_rules(rules: &[Rule]) -> usize
+    ensures enough { result < 2 ^ 64 - 1 → sets_of_rules rules.now ≤ result }
+    ensures least { result ≤ sets_of_rules rules.now }
+{
+    let mut most = 0;
+    for rule in rules {
+        most = greater(most, sets_for_rule(rule));
+    }
+    most
+}
+
+fn sets_for_rule(rule: &Rule) -> usize
+    ensures enough { result < 2 ^ 64 - 1 → length rule.now.vars + sets_of_sides rule.now ≤ result }
+    ensures least { result ≤ length rule.now.vars + sets_of_sides rule.now }
+{
+    let left = sets_for_pattern(rule.left());
+    let right = sets_for_pattern(rule.right()).saturating_add(1);
+    greater(left, right).saturating_add(rule.vars().len())
+}
+
+fn sets_for_pattern(pattern: &Pattern) -> usize
+    ensures enough { result < 2 ^ 64 - 1 → sets_of pattern.now ≤ result }
+    ensures least { result ≤ sets_of pattern.now }
+{
     match pattern {
         Pattern::Var(_var) => 1,
         Pattern::App(_sym, args) => {
-            let mut most: usize = 1;
+            let mut most = 1;
             for (place, arg) in args.as_slice().iter().enumerate() {
-                let count = sets_for_pattern(arg)
-                    .saturating_add(place)
-                    .saturating_add(1);
-                if most < count {
-                    most = count;
-                }
+                let count = sets_for_pattern(arg).saturating_add(place);
+                most = greater(most, count.saturating_add(1));
             }
             most
         }
     }
+}
+
+fn greater(one: usize, other: usize) -> usize
+    ensures { result ≡ max one other }
+{
+    if one < other {
+        return other;
+    }
+    one
 }

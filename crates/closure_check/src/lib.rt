@@ -8,10 +8,14 @@ mod checking;
 mod closing;
 mod containing;
 mod fitting;
+pub mod laws;
 mod marks;
+mod prepared;
+mod replaying;
 mod room;
 mod running;
 
 pub use answer::{Answer, Missing};
 pub use checking::check;
+pub use replaying::{DAnswer, check_derivation};
 pub use room::Room;

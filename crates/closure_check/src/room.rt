@@ -6,13 +6,16 @@ ghost use Rattle.ta_core.specs.Acceptance.{IsContained};
 ghost use Rattle.ta_core.specs.declared.trans.Trans.{Trans as Transition};
 ghost use Rattle.ta_clean.specs.Meeting.{FinalsMeet, IsLeastMeeting};
 ghost use Rattle.ta_clean.specs.Uses.{places_of};
-ghost use Rattle.closure_check.specs.Rooms.{Fits, sets_of_rules};
+ghost use Rattle.closure_check.specs.Rooms.{Fits, HasTables, sets_of_rules};
+ghost use Rattle.closure_check.specs.Marking.{LeadsOn, LeadsBack};
 
 use crate::answer::Missing;
 use crate::closing::first_open;
 use crate::containing::first_missing;
 use crate::fitting::{arguments_fit, is_countable, rules_fit, sets_for};
 use crate::marks::Marks;
+use crate::prepared::Prepared;
+use reach_rows::Reach;
 use std::alloc::{AllocError, Global};
 use std::marker::Model;
 use ta_clean::{Meetings, least_meeting};
@@ -25,6 +28,8 @@ pub struct Room {
     alloc: Global,
     sets: Vec<Marks>,
     states: usize,
+    forward: Reach,
+    back: Reach,
     meetings: Meetings,
 }
 
@@ -38,6 +43,9 @@ impl Model for Room {
     ghost view = { λ room. record {
       sets = length room.sets.items;
       states = room.states;
+      reached = length room.forward.rows;
+      reached_back = length room.back.rows;
+      turned = room.back.edges;
       paired_states = room.meetings.table.height;
       places = room.meetings.first_uses;
       forbidden_states = room.meetings.table.width;
@@ -58,11 +66,14 @@ impl Room {
         for _ in 0..count {
             sets.push(Marks::new(alloc, states)?)?;
         }
+        let (forward, back) = tables(alloc, automaton)?;
         let meetings = Meetings::new(alloc, automaton, &spec.forbidden)?;
         let room = Room {
             alloc,
             sets,
             states,
+            forward,
+            back,
             meetings,
         };
         if !room.fits(spec, automaton) {
@@ -91,7 +102,24 @@ impl Room {
         if (automaton.next() as usize) > self.states {
             return false;
         }
+        if !self.has_tables(automaton) {
+            return false;
+        }
         self.meetings.fits(automaton, &spec.forbidden)
+    }
+
+    // Whether the tables of what epsilon transitions lead to are large enough.
+    fn has_tables(&self, automaton: &Automaton) -> bool
+        ensures { IsTrue result ↔ HasTables self.now automaton.now }
+    {
+        let next = automaton.next() as usize;
+        if automaton.eps().len() > self.back.most_turned() {
+            return false;
+        }
+        if automaton.eps().is_empty() {
+            return true;
+        }
+        next <= self.forward.len() && next <= self.back.len()
     }
 
     /// The first open pair of the rules. It takes no memory, and leaves the room as it was for all.
@@ -99,11 +127,14 @@ impl Room {
         requires few { length rules.now < 2 ^ 32 }
         requires sets { sets_of_rules rules.now ≤ self.old.sets }
         requires states { automaton.now.next ≤ self.old.states }
+        requires tables { HasTables self.old automaton.now }
         ensures some { IfSome result (IsFirstOpen automaton.now rules.now) }
         ensures none { IfNone result (Closed automaton.now rules.now) }
         ensures kept { self.new ≡ self.old }
     {
-        first_open(self.alloc, self.sets.as_mut_slice(), automaton, rules)
+        fill_tables(&mut self.forward, &mut self.back, automaton);
+        let prepared = Prepared::new(automaton, &self.forward, &self.back);
+        first_open(self.alloc, self.sets.as_mut_slice(), &prepared, rules)
     }
 
     /// The first part of the initial automaton that the automaton does not contain by the map. It takes no memory, and leaves
@@ -117,6 +148,7 @@ impl Room {
         requires arguments { All (λ (t : Transition). length t.args < self.old.sets) initial.now.trans }
         requires some { 0 < self.old.sets }
         requires room { automaton.now.next ≤ self.old.states }
+        requires tables { HasTables self.old automaton.now }
         requires trans { length initial.now.trans < 2 ^ 32 }
         requires eps { length initial.now.eps < 2 ^ 32 }
         requires map { initial.now.next ≤ length map.now }
@@ -125,7 +157,9 @@ impl Room {
         ensures none { IfNone result (IsContained initial.now automaton.now map.now) }
         ensures kept { self.new ≡ self.old }
     {
-        first_missing(self.sets.as_mut_slice(), initial, automaton, map.as_slice())
+        fill_tables(&mut self.forward, &mut self.back, automaton);
+        let prepared = Prepared::new(automaton, &self.forward, &self.back);
+        first_missing(self.sets.as_mut_slice(), initial, &prepared, map.as_slice())
     }
     /// The least pair of a final state of each automaton to both of which one ground term runs. It takes no memory, and leaves
     /// the room as it was for all.
@@ -144,4 +178,36 @@ impl Room {
     {
         least_meeting(&mut self.meetings, automaton, forbidden)
     }
+}
+
+// The tables of what the automaton's epsilon transitions lead to, forwards and back. Where there are none, nothing is needed.
+fn tables(alloc: Global, automaton: &Automaton) -> Result<(Reach, Reach), AllocError> {
+    let eps = automaton.eps().len();
+    let states = if eps == 0 {
+        0
+    } else {
+        automaton.next() as usize
+    };
+    let forward = Reach::new(alloc, states, 0)?;
+    let back = Reach::new(alloc, states, eps)?;
+    Ok((forward, back))
+}
+
+// Finds what the automaton's epsilon transitions lead to, if it has some.
+fn fill_tables(forward: &mut Reach, back: &mut Reach, automaton: &Automaton)
+    requires long { ¬ (length automaton.now.eps ≡ 0) → automaton.now.next ≤ length forward.old.rows }
+    requires long_back { ¬ (length automaton.now.eps ≡ 0) → automaton.now.next ≤ length back.old.rows }
+    requires turned { length automaton.now.eps ≤ back.old.edges }
+    ensures forward { ¬ (length automaton.now.eps ≡ 0) → LeadsOn automaton.now forward.new }
+    ensures back { ¬ (length automaton.now.eps ≡ 0) → LeadsBack automaton.now back.new }
+    ensures rows { length forward.new.rows ≡ length forward.old.rows }
+    ensures rows_back { length back.new.rows ≡ length back.old.rows }
+    ensures edges { back.new.edges ≡ back.old.edges }
+{
+    let eps = automaton.eps();
+    if eps.is_empty() {
+        return;
+    }
+    forward.fill(eps);
+    back.fill_back(eps);
 }

@@ -1,5 +1,7 @@
 -- Numbers for pairs of states of two automata: the least sizes of the terms that run to both, up to 1,024. These serve private contracts alone.
 use Rattle.std.specs.Prelude.{◌≡◌, ℕ, Bool, true, false, ◌+◌, ◌*◌, ◌<◌, ◌≤◌, List, map, sum, sum_by, zip, replicate, length, get_or, Some, slice_get, slice_set, All, Contains}
+use Rattle.ranked_terms.specs.Limits.{max_size}
+use Rattle.ta_core.specs.Limits.{max_states}
 use Rattle.ranked_terms.specs.Terms.{config_of, size_of}
 use Rattle.ranked_terms.specs.declared.term.Term.{Term}
 use Rattle.ta_core.specs.Runs.{Runs, Reaches}
@@ -18,8 +20,8 @@ abbrev pub unmade : Made
 unmade = record { size = 1025; left = 0; right = 0 }
 
 pub record IsSizing (s : Sizing) : Type 0 where
-  pub low : s.height ≤ 16384
-  pub narrow : s.width ≤ 16384
+  pub low : s.height ≤ max_states
+  pub narrow : s.width ≤ max_states
   pub full : length s.made ≡ s.height * s.width
   pub capped : All (λ (m : Made). m.size ≤ 1025) s.made
 
@@ -63,7 +65,7 @@ pub record IsMadeBy (both : TwoAutomata) (s : Sizing) (pair : ℕ × ℕ) (made 
 
 -- each number up to 1,024 is made so
 abbrev pub AreMade : TwoAutomata → Sizing → Type 0
-AreMade both s = (pair : ℕ × ℕ) → IsPairOf s pair → size_at s pair ≤ 1024 → IsMadeBy both s pair (made_at s pair)
+AreMade both s = (pair : ℕ × ℕ) → IsPairOf s pair → size_at s pair ≤ max_size → IsMadeBy both s pair (made_at s pair)
 
 -- the states of both automata are below the bounds
 pub record HasSizes (both : TwoAutomata) (s : Sizing) : Type 0 where

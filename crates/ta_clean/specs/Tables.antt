@@ -1,5 +1,6 @@
 -- Pairs of states that are marked in a table of two bounds, row by row.
 use Rattle.std.specs.Prelude.{◌≡◌, ◌≢◌, ◌⊎◌, ℕ, ◌+◌, ◌*◌, ◌<◌, ◌≤◌, List, get_or, length, sum_by}
+use Rattle.ta_core.specs.Limits.{max_states}
 use Rattle.ta_clean.specs.declared.meeting.grid.Mark.{Mark}
 use Rattle.ta_clean.specs.declared.meeting.grid.Mark.TheVariants.{Unmarked, Waiting, Taken}
 
@@ -11,8 +12,8 @@ pub record Table : Type 0 where
 
 -- it has so many marks, and both bounds are small
 pub record IsTable (table : Table) : Type 0 where
-  pub low : table.height ≤ 16384
-  pub narrow : table.width ≤ 16384
+  pub low : table.height ≤ max_states
+  pub narrow : table.width ≤ max_states
   pub full : length table.marks ≡ table.height * table.width
 
 -- both numbers are below the bounds

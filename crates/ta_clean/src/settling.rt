@@ -1,5 +1,6 @@
 //! The least sizes of the terms that run to pairs of states, by passes over both automata until no number falls.
 ghost use Rattle.std.specs.Prelude.{◌≡◌, ◌≤◌, ℕ, IfOk, Contains, Some, slice_get};
+ghost use Rattle.ranked_terms.specs.Limits.{max_size};
 ghost use Rattle.ta_core.specs.declared.trans.Trans.{Trans as Transition};
 ghost use Rattle.ta_clean.specs.Sizes.{AreMade, AreSettled, HasSizes, IsLeastFinal, IsPairOf, IsTermOf, Passes};
 ghost use Rattle.ta_clean.specs.Sizes.{SettledBy, SettledByFirst, SettledBySecond, size_at};
@@ -236,7 +237,7 @@ impl<'a> Both<'a> {
         requires made { AreMade self.now sizes.now }
         requires has { HasSizes self.now sizes.now }
         requires within { IsPairOf sizes.now (first, second) }
-        requires small { size_at sizes.now (first, second) ≤ 1024 }
+        requires small { size_at sizes.now (first, second) ≤ max_size }
         ensures { IfOk result (IsTermOf self.now (first, second) (size_at sizes.now (first, second))) }
     {
         // For the proof: their contracts say what holds of every automaton.

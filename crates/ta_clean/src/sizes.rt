@@ -1,5 +1,6 @@
 //! How small the terms are that run to pairs of states.
 ghost use Rattle.std.specs.Prelude.{◌≡◌, ◌≤◌, ◌<◌, ◌+◌, true, false, length, IfOk};
+ghost use Rattle.ta_core.specs.Limits.{max_states};
 ghost use Rattle.ta_clean.specs.Sizes.{IsLowered, IsPairOf, IsSizing, IsUnmade, made_at, size_at, sum_at};
 
 use std::alloc::{AllocError, Global};
@@ -47,8 +48,8 @@ impl Model for SizeTable {
 impl SizeTable {
     /// A table of these bounds in which no pair has a term. The only error is running out of memory.
     pub(crate) fn new(alloc: Global, height: usize, width: usize) -> Result<SizeTable, AllocError>
-        requires low { height ≤ 16384 }
-        requires narrow { width ≤ 16384 }
+        requires low { height ≤ max_states }
+        requires narrow { width ≤ max_states }
         ensures { IfOk result (IsUnmade height width) }
     {
         let made = vec![in alloc; UNMADE; height * width]?;

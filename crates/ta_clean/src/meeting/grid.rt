@@ -1,5 +1,6 @@
 //! A table of marks for pairs of states.
 ghost use Rattle.std.specs.Prelude.{◌≡◌, ◌≢◌, ◌⊎◌, ◌↔◌, ◌≤◌, ◌+◌, ◌*◌, ◌<◌, ℕ, IsTrue, IfOk, IfSome, IfNone, Some, slice_get};
+ghost use Rattle.ta_core.specs.Limits.{max_states};
 ghost use Rattle.ta_clean.specs.Tables.{IsTable, IsIn, IsMarked, IsTaken, Keeps, TakesOne, IsCleared};
 
 use std::alloc::{AllocError, Global};
@@ -44,8 +45,8 @@ impl Model for Grid {
 impl Grid {
     /// A table of these bounds in which nothing is marked. The only error is running out of memory.
     pub(crate) fn new(alloc: Global, height: usize, width: usize) -> Result<Grid, AllocError>
-        requires low { height ≤ 16384 }
-        requires narrow { width ≤ 16384 }
+        requires low { height ≤ max_states }
+        requires narrow { width ≤ max_states }
         ensures { IfOk result (λ grid. (grid.height ≡ height) × (grid.width ≡ width)) }
     {
         let marks = vec![in alloc; Mark::Unmarked; height * width]?;

@@ -1,6 +1,6 @@
 use Rattle.std.proofs.Common.{refl, subst}
 use Rattle.ta_core.specs.Closure.{Closed, IsFirstOpen}
-use Rattle.closure_check.proofs.Accepting.{none_missing, none_open, none_meet, misses_by}
+use Rattle.closure_check.proofs.firsts.Accepting.{none_missing, none_open, none_meet, misses_by}
 use Rattle.closure_check.proofs.checking.check.Goals as goal
 
 pub accepted_means_safe-requires : goal.accepted_means_safe-requires

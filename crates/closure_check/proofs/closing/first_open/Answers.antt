@@ -3,13 +3,13 @@ use Rattle.std.proofs.lemmas.List.{take_all}
 use Rattle.std.proofs.lemmas.List.Elements.{All-more}
 use Rattle.trs_rules.specs.Rules.{IsRule}
 use Rattle.trs_rules.specs.declared.sigma.Pair.{Pair}
-use Rattle.closure_check.proofs.Assignments.{of_vars}
+use Rattle.closure_check.proofs.triples.Assignments.{of_vars}
 use Rattle.ta_core.specs.Closure.{IsSettled, triples_from, IsFirstOpen}
 use Rattle.closure_check.specs.Searching.{Settles, OpensFirst}
 use Rattle.std.proofs.lemmas.List.{length-map}
 use Rattle.closure_check.specs.Marking.{Marked}
-use Rattle.closure_check.proofs.RunningSets.{room_by, enough_of_rule}
-use Rattle.closure_check.proofs.OpenTriples.{first_of_rules, rules_more, closed_if_settled}
+use Rattle.closure_check.proofs.sets.RunningSets.{room_by, enough_of_rule}
+use Rattle.closure_check.proofs.triples.OpenTriples.{first_of_rules, rules_more, closed_if_settled}
 use Rattle.closure_check.proofs.closing.first_open.Goals as goal
 
 pub returns-in-Some-clause-some : goal.returns-in-Some-clause-some

@@ -2,8 +2,8 @@ use Rattle.std.proofs.Common.{ℕ, ◌+◌, All, get_or, sym, ap, subst, ◌∙�
 use Rattle.std.proofs.lemmas.List.{take_all, get_or_default}
 use Rattle.std.proofs.lemmas.List.Elements.{All-more}
 use Rattle.ta_core.specs.Acceptance.{EpsHolds}
-use Rattle.closure_check.proofs.RunningSets.{same_length, room_by}
-use Rattle.closure_check.proofs.FirstFailures.{fails_at, sizes_set}
+use Rattle.closure_check.proofs.sets.RunningSets.{same_length, room_by}
+use Rattle.closure_check.proofs.firsts.FirstFailures.{fails_at, sizes_set}
 use Rattle.closure_check.proofs.containing.first_eps.Goals as goal
 
 pub eps_holds-requires : goal.eps_holds-requires

@@ -2,7 +2,7 @@ use Rattle.std.proofs.Common.{ℕ, All, get_or, sym, subst, ◌∙◌, true≢fa
 use Rattle.std.proofs.lemmas.List.{take_all, get_or_default}
 use Rattle.std.proofs.lemmas.List.Elements.{All-more}
 use Rattle.ta_core.specs.Acceptance.{FinalHolds}
-use Rattle.closure_check.proofs.FirstFailures.{fails_first}
+use Rattle.closure_check.proofs.firsts.FirstFailures.{fails_first}
 use Rattle.closure_check.proofs.containing.first_final.Goals as goal
 
 pub returns-then-not-final_holds-clause-some : goal.returns-then-not-final_holds-clause-some

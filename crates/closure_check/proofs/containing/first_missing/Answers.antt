@@ -2,8 +2,8 @@ use Rattle.std.proofs.Common.{ℕ, List, All, subst}
 use Rattle.ta_core.specs.declared.trans.Trans.{Trans}
 use Rattle.closure_check.specs.Answers.{FailsFirst, FailsFirstAt}
 use Rattle.ta_core.specs.Acceptance.{TransHolds, EpsHolds, FinalHolds}
-use Rattle.closure_check.proofs.RunningSets.{room_by}
-use Rattle.closure_check.proofs.FirstFailures.{all_contained}
+use Rattle.closure_check.proofs.sets.RunningSets.{room_by}
+use Rattle.closure_check.proofs.firsts.FirstFailures.{all_contained}
 use Rattle.closure_check.proofs.containing.first_missing.Goals as goal
 
 pub returns-in-Some-clause-some : goal.returns-in-Some-clause-some

@@ -3,8 +3,8 @@ use Rattle.std.proofs.lemmas.List.{take_all}
 use Rattle.std.proofs.lemmas.List.Elements.{All-more}
 use Rattle.ta_core.specs.declared.trans.Trans.{Trans}
 use Rattle.ta_core.specs.Acceptance.{TransHolds}
-use Rattle.closure_check.proofs.RunningSets.{same_length, room_by}
-use Rattle.closure_check.proofs.FirstFailures.{fails_at}
+use Rattle.closure_check.proofs.sets.RunningSets.{same_length, room_by}
+use Rattle.closure_check.proofs.firsts.FirstFailures.{fails_at}
 use Rattle.closure_check.proofs.containing.first_trans.Goals as goal
 
 pub trans_holds-requires-clause-arguments : goal.trans_holds-requires-clause-arguments

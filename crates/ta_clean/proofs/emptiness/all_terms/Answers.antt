@@ -4,7 +4,7 @@ use Rattle.ta_core.specs.TreeAutomaton.{TreeAutomaton, trans_of}
 use Rattle.ta_core.specs.declared.trans.Trans.{Trans}
 use Rattle.list_laws.proofs.Members.{here}
 use Rattle.ta_clean.specs.Productive.{HasAllTerms}
-use Rattle.ta_clean.proofs.AllTerms.{all_terms_more, all_zeros, zeros_same, one_ascends}
+use Rattle.ta_clean.proofs.languages.AllTerms.{all_terms_more, all_zeros, zeros_same, one_ascends}
 use Rattle.ta_clean.proofs.emptiness.all_terms.Goals as goal
 
 pub with_states-requires-clause-ascend : goal.with_states-requires-clause-ascend

@@ -1,5 +1,5 @@
 use Rattle.std.proofs.Common.{◌∙◌, ℕ, Vec, Global, true≢false, sym, ap}
-use Rattle.ta_clean.proofs.AllTerms.{marked_more, marked_no_more, marked_all}
+use Rattle.ta_clean.proofs.languages.AllTerms.{marked_more, marked_no_more, marked_all}
 use Rattle.ta_clean.proofs.emptiness.marked_states.Goals as goal
 use Rattle.ta_clean.proofs.emptiness.marked_states.Goals.{then-contains+in_ok-push, else-contains}
 

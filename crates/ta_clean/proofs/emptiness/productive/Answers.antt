@@ -1,7 +1,7 @@
 use Rattle.std.proofs.Common.{List, subst}
 use Rattle.ta_core.specs.declared.trans.Trans.{Trans}
 use Rattle.ta_clean.specs.Productive.{HasAllTerms}
-use Rattle.ta_clean.proofs.AllTerms.{productive_by}
+use Rattle.ta_clean.proofs.languages.AllTerms.{productive_by}
 use Rattle.ta_clean.proofs.emptiness.productive.Goals as goal
 
 pub returns : goal.returns

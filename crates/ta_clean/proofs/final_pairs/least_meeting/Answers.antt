@@ -2,7 +2,7 @@ use Rattle.std.proofs.Common.{ℕ, List, get_or, Contains, sym, subst, arith}
 use Rattle.ta_core.specs.Meeting.{Meets}
 use Rattle.ta_clean.specs.Meeting.{IsLeastMeeting}
 use Rattle.ta_clean.specs.Walking.{IsLeastIn}
-use Rattle.ta_clean.proofs.LeastMembers.{NoneMeets, least_pair, no_pair, nones_more}
+use Rattle.ta_clean.proofs.least.LeastMembers.{NoneMeets, least_pair, no_pair, nones_more}
 use Rattle.ta_clean.proofs.final_pairs.least_meeting.Goals as goal
 
 pub loop-state-init : goal.loop-state-init

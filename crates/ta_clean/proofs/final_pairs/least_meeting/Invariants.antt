@@ -1,5 +1,5 @@
 use Rattle.std.proofs.Common.{◌<◌, ℕ, get_or}
-use Rattle.ta_clean.proofs.LeastMembers.{NoneMeets}
+use Rattle.ta_clean.proofs.least.LeastMembers.{NoneMeets}
 use Rattle.ta_clean.proofs.final_pairs.least_meeting.Given as goal
 
 abbrev pub invariant-loop-state : goal.invariant-loop-state

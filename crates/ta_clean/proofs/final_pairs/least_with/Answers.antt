@@ -1,6 +1,6 @@
 use Rattle.std.proofs.Common.{true≢false, sym, ◌∙◌, arith}
 use Rattle.ta_clean.specs.Tables.{IsMarked}
-use Rattle.ta_clean.proofs.LeastMembers.{least_here, none_more, none_at_all}
+use Rattle.ta_clean.proofs.least.LeastMembers.{least_here, none_more, none_at_all}
 use Rattle.ta_clean.proofs.final_pairs.least_with.Goals as goal
 
 pub loop-second-init : goal.loop-second-init

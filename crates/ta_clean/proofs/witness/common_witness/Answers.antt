@@ -5,8 +5,8 @@ use Rattle.ta_clean.specs.Meeting.{IsCommon, FinalsMeet}
 use Rattle.ta_clean.specs.Least.{IsLarge, IsSmallest}
 use Rattle.ta_clean.specs.Products.{TwoAutomata}
 use Rattle.ta_clean.specs.declared.sizes.Made.{Made}
-use Rattle.ta_clean.proofs.Lowering.{pair_in}
-use Rattle.ta_clean.proofs.Building.{none_in_common, language_is_large, term_is_smallest}
+use Rattle.ta_clean.proofs.least.Lowering.{pair_in}
+use Rattle.ta_clean.proofs.least.Building.{none_in_common, language_is_large, term_is_smallest}
 use Rattle.ta_clean.proofs.witness.common_witness.Goals as goal
 
 pub returns-in_default : goal.returns-in_default

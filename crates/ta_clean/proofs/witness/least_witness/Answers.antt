@@ -3,8 +3,8 @@ use Rattle.ta_core.specs.declared.trans.Trans.{Trans}
 use Rattle.ta_core.specs.Languages.{Accepts}
 use Rattle.ta_clean.specs.Meeting.{IsCommon}
 use Rattle.ta_clean.specs.Productive.{HasAllTerms}
-use Rattle.ta_clean.proofs.AllTerms.{common_is_accepted}
-use Rattle.ta_clean.proofs.Building.{witnesses_same}
+use Rattle.ta_clean.proofs.languages.AllTerms.{common_is_accepted}
+use Rattle.ta_clean.proofs.least.Building.{witnesses_same}
 use Rattle.ta_clean.proofs.witness.least_witness.Goals as goal
 
 pub returns : goal.returns

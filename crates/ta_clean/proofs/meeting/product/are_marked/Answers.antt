@@ -1,7 +1,7 @@
 use Rattle.std.proofs.Common.{ℕ, rules}
 use Rattle.std.proofs.lemmas.Iterator.{cases_from_all, YieldsList-from_slice, YieldsList-from_zip}
 use Rattle.ta_clean.specs.Tables.{IsMarked}
-use Rattle.ta_clean.proofs.MarkedArguments.{are_all_by}
+use Rattle.ta_clean.proofs.marking.MarkedArguments.{are_all_by}
 use Rattle.ta_clean.proofs.meeting.product.are_marked.Goals as goal
 
 pub returns-then-firsts-seconds : goal.returns-then-firsts-seconds

@@ -1,6 +1,6 @@
 use Rattle.std.proofs.Common.{◌++◌, ◌∷◌, [], cond, get_or, is_ok, length, length-append, slice_get, sym, ap, ◌∙◌, arith}
 use Rattle.std.proofs.lemmas.Option.{slice_get-get_or}
-use Rattle.ta_clean.proofs.UseLists.{use_of, uses_more, uses_end}
+use Rattle.ta_clean.proofs.marking.UseLists.{use_of, uses_more, uses_end}
 use Rattle.ta_clean.proofs.meeting.uses.add_uses.Goals as goal
 
 pub unwrap-requires : goal.unwrap-requires

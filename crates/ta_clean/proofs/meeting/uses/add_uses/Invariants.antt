@@ -1,6 +1,6 @@
 use Rattle.std.proofs.Common.{◌≡◌, ◌≤◌, ◌+◌, length}
 use Rattle.std.specs.Vec.{vec_capacity}
-use Rattle.ta_clean.proofs.UseLists.{HasUsesBelow}
+use Rattle.ta_clean.proofs.marking.UseLists.{HasUsesBelow}
 use Rattle.ta_clean.proofs.meeting.uses.add_uses.Given as goal
 
 abbrev pub invariant-loop-place : goal.invariant-loop-place

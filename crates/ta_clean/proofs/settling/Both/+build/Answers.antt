@@ -2,7 +2,7 @@ use Rattle.std.proofs.Common.{◌+◌, ◌<◌, ◌≤◌, ℕ, List, length, ge
 use Rattle.ta_core.specs.TreeAutomaton.{IsSound}
 use Rattle.ta_clean.specs.Products.{TwoAutomata}
 use Rattle.ta_clean.specs.Sizes.{IsPairOf, size_at, sum_at}
-use Rattle.ta_clean.proofs.Building.{left_within, right_within, same_count, sum_less, left_in, right_in, term_is_built, argument_less, argument_in, AreBuilt, built_more}
+use Rattle.ta_clean.proofs.least.Building.{left_within, right_within, same_count, sum_less, left_in, right_in, term_is_built, argument_less, argument_in, AreBuilt, built_more}
 use Rattle.ta_clean.proofs.settling.Both.+build.Goals as goal
 
 pub offset_bounds-trans-made : goal.offset_bounds-trans-made

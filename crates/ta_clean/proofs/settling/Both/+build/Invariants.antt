@@ -1,5 +1,5 @@
 use Rattle.ta_clean.specs.Sizes.{size_at}
-use Rattle.ta_clean.proofs.Building.{AreBuilt}
+use Rattle.ta_clean.proofs.least.Building.{AreBuilt}
 use Rattle.ta_clean.proofs.settling.Both.+build.Given as goal
 
 abbrev pub invariant-loop-place : goal.invariant-loop-place

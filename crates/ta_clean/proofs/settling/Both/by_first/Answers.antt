@@ -4,9 +4,9 @@ use Rattle.ta_core.specs.TreeAutomaton.{IsSound, IsEpsOf}
 use Rattle.ta_clean.specs.Products.{TwoAutomata}
 use Rattle.ta_clean.specs.Sizes.{Sizing, IsLowered, Passes, size_at}
 use Rattle.ta_clean.specs.declared.sizes.Made.{Made}
-use Rattle.ta_clean.proofs.CommonTerms.{get_or_same}
-use Rattle.ta_clean.proofs.Sizing.{has_sizes, passes_start, passes_more, passes_all}
-use Rattle.ta_clean.proofs.Lowering.{first_pass, pair_in}
+use Rattle.ta_clean.proofs.marking.CommonTerms.{get_or_same}
+use Rattle.ta_clean.proofs.least.Sizing.{has_sizes, passes_start, passes_more, passes_all}
+use Rattle.ta_clean.proofs.least.Lowering.{first_pass, pair_in}
 use Rattle.ta_clean.proofs.settling.Both.by_first.Goals as goal
 
 pub loop-state-init : goal.loop-state-init

@@ -2,8 +2,8 @@ use Rattle.std.proofs.Common.{◌∙◌, ℕ, List, Contains, get_or, ap, subst}
 use Rattle.std.proofs.lemmas.List.Elements.{Contains-get_or}
 use Rattle.ta_clean.specs.Products.{TwoAutomata}
 use Rattle.ta_clean.specs.Sizes.{Sizing, Passes, SettledBySecond}
-use Rattle.ta_clean.proofs.CommonTerms.{get_or_same}
-use Rattle.ta_clean.proofs.Sizing.{has_sizes, passes_start, passes_more, passes_all}
+use Rattle.ta_clean.proofs.marking.CommonTerms.{get_or_same}
+use Rattle.ta_clean.proofs.least.Sizing.{has_sizes, passes_start, passes_more, passes_all}
 use Rattle.ta_clean.proofs.settling.Both.by_seconds.Goals as goal
 
 pub loop-from-init : goal.loop-from-init

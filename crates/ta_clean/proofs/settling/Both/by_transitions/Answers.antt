@@ -3,7 +3,7 @@ use Rattle.std.proofs.lemmas.Option.{slice_get-get_or}
 use Rattle.ta_core.specs.declared.trans.Trans.{Trans}
 use Rattle.ta_clean.specs.Products.{TwoAutomata}
 use Rattle.ta_clean.specs.Sizes.{Sizing, Passes, SettledBy}
-use Rattle.ta_clean.proofs.Sizing.{has_sizes, passes_start, passes_more, passes_all}
+use Rattle.ta_clean.proofs.least.Sizing.{has_sizes, passes_start, passes_more, passes_all}
 use Rattle.ta_clean.proofs.settling.Both.by_transitions.Goals as goal
 
 pub loop-place-init : goal.loop-place-init

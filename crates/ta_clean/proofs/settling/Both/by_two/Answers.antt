@@ -2,8 +2,8 @@ use Rattle.std.proofs.Common.{◌≡◌, ◌∙◌, ℕ, List, length, sym, ap, 
 use Rattle.ta_core.specs.TreeAutomaton.{IsSound}
 use Rattle.ta_clean.specs.Products.{TwoAutomata}
 use Rattle.ta_clean.specs.Sizes.{SettledBy, sum_at}
-use Rattle.ta_clean.proofs.Sizing.{none_passes}
-use Rattle.ta_clean.proofs.Lowering.{two_pass, targets_in, at_contains}
+use Rattle.ta_clean.proofs.least.Sizing.{none_passes}
+use Rattle.ta_clean.proofs.least.Lowering.{two_pass, targets_in, at_contains}
 use Rattle.ta_clean.proofs.settling.Both.by_two.Goals as goal
 
 pub lower-requires : goal.lower-requires

@@ -2,7 +2,7 @@ use Rattle.std.proofs.Common.{◌≤◌, ℕ, List, get_or, Contains, sym, ap, s
 use Rattle.std.proofs.lemmas.List.Elements.{Contains-get_or}
 use Rattle.ta_clean.specs.Products.{TwoAutomata}
 use Rattle.ta_clean.specs.Sizes.{size_at}
-use Rattle.ta_clean.proofs.Building.{at_each, each_more}
+use Rattle.ta_clean.proofs.least.Building.{at_each, each_more}
 use Rattle.ta_clean.proofs.settling.Both.least_final.Goals as goal
 
 pub least_with-least-requires-clause-state : goal.least_with-least-requires-clause-state

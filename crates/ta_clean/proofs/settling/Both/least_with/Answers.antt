@@ -3,7 +3,7 @@ use Rattle.std.proofs.lemmas.List.Elements.{Contains-get_or}
 use Rattle.ta_clean.specs.Products.{TwoAutomata}
 use Rattle.ta_clean.specs.Sizes.{size_at}
 use Rattle.ta_clean.specs.declared.sizes.Made.{Made}
-use Rattle.ta_clean.proofs.Building.{least_then, least_else, at_each}
+use Rattle.ta_clean.proofs.least.Building.{least_then, least_else, at_each}
 use Rattle.ta_clean.proofs.settling.Both.least_with.Goals as goal
 use Rattle.ta_clean.proofs.settling.Both.least_with.Goals.{then-get, else-get}
 

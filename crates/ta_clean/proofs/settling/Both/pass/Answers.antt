@@ -1,6 +1,6 @@
 use Rattle.std.proofs.Common.{◌||◌}
 use Rattle.ta_clean.specs.Sizes.{AreSettled}
-use Rattle.ta_clean.proofs.Sizing.{has_sizes, passes_as, passes_on}
+use Rattle.ta_clean.proofs.least.Sizing.{has_sizes, passes_as, passes_on}
 use Rattle.ta_clean.proofs.settling.Both.pass.Goals as goal
 
 pub by_firsts-firsts-requires-clause-has : goal.by_firsts-firsts-requires-clause-has

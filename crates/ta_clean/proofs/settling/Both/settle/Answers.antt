@@ -1,6 +1,6 @@
 use Rattle.std.proofs.Common.{sym, subst}
 use Rattle.ta_clean.specs.Sizes.{AreSettled}
-use Rattle.ta_clean.proofs.Sizing.{has_sizes}
+use Rattle.ta_clean.proofs.least.Sizing.{has_sizes}
 use Rattle.ta_clean.proofs.settling.Both.settle.Goals as goal
 
 pub loop-preserved : goal.loop-preserved

@@ -1,7 +1,7 @@
 use Rattle.std.proofs.Common.{◌≤◌, sym, subst, arith}
 use Rattle.std.proofs.Math.Nat.{mul-le-mul}
 use Rattle.ta_clean.specs.Sizes.{Sizing, IsPairOf}
-use Rattle.ta_clean.proofs.Sizing.{within}
+use Rattle.ta_clean.proofs.least.Sizing.{within}
 use Rattle.ta_clean.proofs.sizes.SizeTable.lower.Goals as goal
 
 pub overflow_mul-place : goal.overflow_mul-place

@@ -1,6 +1,6 @@
 use Rattle.std.proofs.Common.{◌+◌, ap, arith}
 use Rattle.ta_clean.specs.declared.sizes.Made.{Made}
-use Rattle.ta_clean.proofs.Building.{sum_more, sum_front, sum_all}
+use Rattle.ta_clean.proofs.least.Building.{sum_more, sum_front, sum_all}
 use Rattle.ta_clean.proofs.sizes.SizeTable.sum_of.Goals as goal
 
 pub loop-place-preserved : goal.loop-place-preserved

@@ -1,7 +1,7 @@
 use Rattle.std.proofs.Common.{◌≡◌, ℕ, sym, subst, ◌∙◌}
 use Rattle.ta_clean.specs.Tables.{Table, IsIn, IsMarked, Keeps, mark_of}
 use Rattle.ta_clean.specs.declared.meeting.grid.Mark.TheVariants.{Unmarked, Waiting}
-use Rattle.ta_clean.proofs.TableMarks.{was_marked, marking_keeps, marking_marks, unmarked_by, mark_read}
+use Rattle.ta_clean.proofs.marking.TableMarks.{was_marked, marking_keeps, marking_marks, unmarked_by, mark_read}
 use Rattle.ta_clean.proofs.meeting.grid.Grid.mark.Goals as goal
 
 pub returns-then-not-is_marked-clause-members : goal.returns-then-not-is_marked-clause-members

@@ -1,7 +1,7 @@
 use Rattle.std.proofs.Common.{◌≡◌, ◌/◌, ◌%◌, ℕ, Some, slice_get, sym, subst, ◌∙◌, arith}
 use Rattle.ta_clean.specs.Tables.{Table, IsMarked, IsTaken, TakesOne}
 use Rattle.ta_clean.specs.declared.meeting.grid.Mark.TheVariants.{Waiting, Taken}
-use Rattle.ta_clean.proofs.TableMarks.{with_mark, takes_one, all_taken, wide, inside, is_in, table_with}
+use Rattle.ta_clean.proofs.marking.TableMarks.{with_mark, takes_one, all_taken, wide, inside, is_in, table_with}
 use Rattle.ta_clean.proofs.meeting.grid.Grid.take.Goals as goal
 
 pub index_mut-requires : goal.index_mut-requires

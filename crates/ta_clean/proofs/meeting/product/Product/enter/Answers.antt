@@ -2,7 +2,7 @@ use Rattle.std.proofs.Common.{ℕ, List, sym, subst, ⊎_elim}
 use Rattle.ta_core.specs.TreeAutomaton.{IsSound}
 use Rattle.ta_clean.specs.Tables.{IsMarked}
 use Rattle.ta_clean.specs.Products.{TwoAutomata, AreAll}
-use Rattle.ta_clean.proofs.CommonTerms.{enters_meet, enters_in}
+use Rattle.ta_clean.proofs.marking.CommonTerms.{enters_meet, enters_in}
 use Rattle.ta_clean.proofs.meeting.product.Product.enter.Goals as goal
 
 pub mark-requires : goal.mark-requires

@@ -1,4 +1,4 @@
-use Rattle.ta_clean.proofs.CommonTerms.{has_table, keeps_on, steps_marked}
+use Rattle.ta_clean.proofs.marking.CommonTerms.{has_table, keeps_on, steps_marked}
 use Rattle.ta_clean.proofs.meeting.product.Product.follow_epsilons.Goals as goal
 
 pub follow_seconds-requires-clause-table : goal.follow_seconds-requires-clause-table

@@ -3,7 +3,7 @@ use Rattle.std.proofs.lemmas.List.Elements.{Contains-get_or}
 use Rattle.ta_core.specs.TreeAutomaton.{IsSound}
 use Rattle.ta_clean.specs.Tables.{IsMarked}
 use Rattle.ta_clean.specs.Products.{TwoAutomata}
-use Rattle.ta_clean.proofs.CommonTerms.{marking_starts, marking_more, marking_ends, get_or_same, second_in, second_meets, meets_with}
+use Rattle.ta_clean.proofs.marking.CommonTerms.{marking_starts, marking_more, marking_ends, get_or_same, second_in, second_meets, meets_with}
 use Rattle.ta_clean.proofs.meeting.product.Product.follow_seconds.Goals as goal
 
 pub mark-requires : goal.mark-requires

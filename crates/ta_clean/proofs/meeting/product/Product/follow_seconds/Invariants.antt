@@ -1,5 +1,5 @@
 use Rattle.std.proofs.Common.{◌≡◌, ℕ, take}
-use Rattle.ta_clean.proofs.CommonTerms.{IsMarking}
+use Rattle.ta_clean.proofs.marking.CommonTerms.{IsMarking}
 use Rattle.ta_clean.proofs.meeting.product.Product.follow_seconds.Given as goal
 
 abbrev pub invariant-loop-to : goal.invariant-loop-to

@@ -4,8 +4,8 @@ use Rattle.ta_clean.specs.Tables.{IsMarked}
 use Rattle.ta_clean.specs.Products.{TwoAutomata, EntersBy}
 use Rattle.ta_clean.specs.Uses.{AreUsesOf}
 use Rattle.ta_clean.specs.declared.meeting.uses.Use.{Use}
-use Rattle.ta_clean.proofs.CommonTerms.{get_or_same, has_table, marking_starts, marking_more, marking_ends, enters_by_later, entered_at}
-use Rattle.ta_clean.proofs.UseLists.{use_of}
+use Rattle.ta_clean.proofs.marking.CommonTerms.{get_or_same, has_table, marking_starts, marking_more, marking_ends, enters_by_later, entered_at}
+use Rattle.ta_clean.proofs.marking.UseLists.{use_of}
 use Rattle.ta_clean.proofs.meeting.product.Product.follow_transitions.Goals as goal
 
 pub follow_use-requires-clause-used : goal.follow_use-requires-clause-used

@@ -1,7 +1,7 @@
 use Rattle.std.proofs.Common.{take}
 use Rattle.ta_clean.specs.Tables.{IsMarked}
 use Rattle.ta_clean.specs.Products.{EntersBy}
-use Rattle.ta_clean.proofs.CommonTerms.{IsMarking}
+use Rattle.ta_clean.proofs.marking.CommonTerms.{IsMarking}
 use Rattle.ta_clean.proofs.meeting.product.Product.follow_transitions.Given as goal
 
 abbrev pub invariant-loop-used : goal.invariant-loop-used

@@ -4,8 +4,8 @@ use Rattle.ta_clean.specs.Products.{TwoAutomata}
 use Rattle.ta_clean.specs.Uses.{IsUseOf, AreUsesOf}
 use Rattle.ta_clean.specs.declared.meeting.uses.Slot.{Slot}
 use Rattle.ta_clean.specs.declared.meeting.uses.Use.{Use}
-use Rattle.ta_clean.proofs.CommonTerms.{get_or_same, EntersWith, has_table, marking_starts, marking_more, marking_ends, enters_with, enters_later, entered_by}
-use Rattle.ta_clean.proofs.UseLists.{use_of, slot_use, used_trans, used_in, used_within, same_sym}
+use Rattle.ta_clean.proofs.marking.CommonTerms.{get_or_same, EntersWith, has_table, marking_starts, marking_more, marking_ends, enters_with, enters_later, entered_by}
+use Rattle.ta_clean.proofs.marking.UseLists.{use_of, slot_use, used_trans, used_in, used_within, same_sym}
 use Rattle.ta_clean.proofs.meeting.product.Product.follow_use.Goals as goal
 
 pub offset_bounds-rights-other : goal.offset_bounds-rights-other

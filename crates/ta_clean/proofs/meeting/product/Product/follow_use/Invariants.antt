@@ -1,6 +1,6 @@
 use Rattle.std.proofs.Common.{take}
 use Rattle.ta_clean.specs.Tables.{IsMarked}
-use Rattle.ta_clean.proofs.CommonTerms.{IsMarking, EntersWith}
+use Rattle.ta_clean.proofs.marking.CommonTerms.{IsMarking, EntersWith}
 use Rattle.ta_clean.proofs.meeting.product.Product.follow_use.Given as goal
 
 abbrev pub invariant-loop-other : goal.invariant-loop-other

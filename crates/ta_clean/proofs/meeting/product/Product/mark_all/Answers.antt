@@ -1,5 +1,5 @@
 use Rattle.std.proofs.Common.{sym, subst, ◌∙◌, arith}
-use Rattle.ta_clean.proofs.CommonTerms.{has_table, following_starts, following_more, following_ends, meets_taken, table_taken, pair_taken, keeps_itself, IsFollowing}
+use Rattle.ta_clean.proofs.marking.CommonTerms.{has_table, following_starts, following_more, following_ends, meets_taken, table_taken, pair_taken, keeps_itself, IsFollowing}
 use Rattle.ta_clean.proofs.meeting.product.Product.mark_all.Goals as goal
 
 pub mark_constants-requires-clause-meets : goal.mark_constants-requires-clause-meets

@@ -1,6 +1,6 @@
 use Rattle.std.proofs.Common.{◌≡◌}
 use Rattle.ta_clean.specs.Tables.{count_left}
-use Rattle.ta_clean.proofs.CommonTerms.{IsFollowing}
+use Rattle.ta_clean.proofs.marking.CommonTerms.{IsFollowing}
 use Rattle.ta_clean.proofs.meeting.product.Product.mark_all.Given as goal
 
 abbrev pub invariant-loop-first : goal.invariant-loop-first

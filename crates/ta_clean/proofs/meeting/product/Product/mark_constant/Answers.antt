@@ -2,7 +2,7 @@ use Rattle.std.proofs.Common.{ℕ, Contains, sym, subst}
 use Rattle.ta_core.specs.declared.trans.Trans.{Trans}
 use Rattle.ta_clean.specs.Tables.{IsMarked}
 use Rattle.ta_clean.specs.Products.{TwoAutomata, Enters}
-use Rattle.ta_clean.proofs.CommonTerms.{item_in, has_table, marking_starts, marking_more, marking_ends, enters_later}
+use Rattle.ta_clean.proofs.marking.CommonTerms.{item_in, has_table, marking_starts, marking_more, marking_ends, enters_later}
 use Rattle.ta_clean.proofs.meeting.product.Product.mark_constant.Goals as goal
 
 pub enter-requires-clause-second : goal.enter-requires-clause-second

@@ -2,7 +2,7 @@ use Rattle.std.proofs.Common.{ℕ, Contains, sym, subst}
 use Rattle.ta_core.specs.declared.trans.Trans.{Trans}
 use Rattle.ta_clean.specs.Products.{TwoAutomata, Enters}
 use Rattle.ta_clean.specs.Tables.{Table, IsMarked}
-use Rattle.ta_clean.proofs.CommonTerms.{has_table, marking_starts, marking_more, marking_ends, enters_later, starts_at_constants, keeps_itself}
+use Rattle.ta_clean.proofs.marking.CommonTerms.{has_table, marking_starts, marking_more, marking_ends, enters_later, starts_at_constants, keeps_itself}
 use Rattle.ta_clean.proofs.meeting.product.Product.mark_constants.Goals as goal
 use Rattle.ta_clean.proofs.meeting.product.Product.mark_constants.Goals.{then-is_empty, else-is_empty}
 

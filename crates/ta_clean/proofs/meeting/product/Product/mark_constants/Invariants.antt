@@ -1,7 +1,7 @@
 use Rattle.std.proofs.Common.{take}
 use Rattle.ta_core.specs.declared.trans.Trans.{Trans}
 use Rattle.ta_clean.specs.Products.{Enters}
-use Rattle.ta_clean.proofs.CommonTerms.{IsMarking}
+use Rattle.ta_clean.proofs.marking.CommonTerms.{IsMarking}
 use Rattle.ta_clean.proofs.meeting.product.Product.mark_constants.Given as goal
 
 abbrev pub invariant-loop-left : goal.invariant-loop-left

@@ -4,7 +4,7 @@ use Rattle.std.proofs.lemmas.List.Sorted.{IsPartitionPoint-from_clause, IsPartit
 use Rattle.list_laws.proofs.Lookups.{part_of_key}
 use Rattle.ta_clean.specs.Slots.{slot_cmp}
 use Rattle.ta_clean.specs.declared.meeting.uses.Use.{Use}
-use Rattle.ta_clean.proofs.UseLists.{standing, standings_ascend, at_standing, is_less, is_at_most}
+use Rattle.ta_clean.proofs.marking.UseLists.{standing, standings_ascend, at_standing, is_less, is_at_most}
 use Rattle.ta_clean.proofs.meeting.uses.Uses.at_slot.Goals as goal
 
 pub returns : goal.returns

@@ -1,6 +1,6 @@
 use Rattle.std.proofs.Common.{length, true≢false, ap, sym, refl, arith}
 use Rattle.ta_clean.specs.Uses.{UseRoom}
-use Rattle.ta_clean.proofs.ArgumentPlaces.{places_through, places_more, places_all}
+use Rattle.ta_clean.proofs.marking.ArgumentPlaces.{places_through, places_more, places_all}
 use Rattle.ta_clean.proofs.meeting.uses.Uses.fit.Goals as goal
 
 pub loop-trans-init : goal.loop-trans-init

@@ -1,5 +1,5 @@
 use Rattle.std.proofs.Common.{length, ap, arith}
-use Rattle.ta_clean.proofs.ArgumentPlaces.{places_more, places_all}
+use Rattle.ta_clean.proofs.marking.ArgumentPlaces.{places_more, places_all}
 use Rattle.ta_clean.proofs.meeting.uses.Uses.new.Goals as goal
 
 pub loop-trans-preserved : goal.loop-trans-preserved

@@ -3,7 +3,7 @@ use Rattle.std.proofs.lemmas.List.{take_rest}
 use Rattle.std.proofs.lemmas.List.Sorted.{IsPartitionPoint-from_clause, IsPartitionedBy-ltb, IsPartitionedBy-leb, IsNonDecreasingBy-drop}
 use Rattle.list_laws.proofs.Lookups.{part_of_key}
 use Rattle.ta_clean.specs.declared.meeting.uses.Use.{Use}
-use Rattle.ta_clean.proofs.UseLists.{states_ascend}
+use Rattle.ta_clean.proofs.marking.UseLists.{states_ascend}
 use Rattle.ta_clean.proofs.meeting.uses.Uses.of_state.Goals as goal
 
 pub returns : goal.returns

@@ -1,7 +1,7 @@
 use Rattle.std.proofs.Common.{◌∙◌, Some, sym, ap, arith}
 use Rattle.std.proofs.lemmas.Option.{slice_get-get_or}
-use Rattle.ta_clean.proofs.UseLists.{uses_before_more, uses_all}
-use Rattle.ta_clean.proofs.ArgumentPlaces.{places_more, places_through}
+use Rattle.ta_clean.proofs.marking.UseLists.{uses_before_more, uses_all}
+use Rattle.ta_clean.proofs.marking.ArgumentPlaces.{places_more, places_through}
 use Rattle.ta_clean.proofs.meeting.uses.Uses.refill.Goals as goal
 
 pub add_uses-requires : goal.add_uses-requires

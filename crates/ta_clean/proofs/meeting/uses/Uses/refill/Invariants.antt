@@ -1,7 +1,7 @@
 use Rattle.std.proofs.Common.{◌≡◌, ◌≤◌, length, take}
 use Rattle.std.specs.Vec.{vec_capacity}
 use Rattle.ta_clean.specs.Uses.{places_of}
-use Rattle.ta_clean.proofs.UseLists.{HasUsesBefore}
+use Rattle.ta_clean.proofs.marking.UseLists.{HasUsesBefore}
 use Rattle.ta_clean.proofs.meeting.uses.Uses.refill.Given as goal
 
 abbrev pub invariant-loop-position : goal.invariant-loop-position

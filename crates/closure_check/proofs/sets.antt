@@ -1,0 +1,6 @@
+pub mod MarkLists
+pub mod Reaching
+pub mod Lists
+pub mod RunningSets
+pub mod Apart
+pub mod Entering

@@ -1,0 +1,2 @@
+pub mod EmptyLanguages
+pub mod AllTerms

@@ -1,0 +1,4 @@
+pub mod LeastMembers
+pub mod Sizing
+pub mod Building
+pub mod Lowering

@@ -1,0 +1,5 @@
+pub mod UseLists
+pub mod TableMarks
+pub mod MarkedArguments
+pub mod ArgumentPlaces
+pub mod CommonTerms
