@@ -1,0 +1,13 @@
+pub mod Words
+pub mod TermForms
+pub mod Lines
+pub mod Certificates
+pub mod Faults
+pub mod Laws
+pub mod Numerals
+pub mod Cuts
+pub mod Taking
+pub mod Entries
+pub mod TermScan
+pub mod Paths
+pub mod Whole
