@@ -1,21 +1,22 @@
 //! The open pairs of one rule, found assignment by assignment.
 ghost use Rattle.std.specs.Prelude.{◌≡◌, ◌↔◌, ◌≤◌, ◌++◌, ℕ, length, map, Contains, IfOk, OnOk};
+ghost use Rattle.ranked_terms.specs.Limits.{max_variables};
 ghost use Rattle.std.specs.Ordering.{nat_cmp};
 ghost use Rattle.std.specs.List.Sorted.{IsStrictlySortedBy};
 ghost use Rattle.critical_pairs.specs.Opens.{pair_of};
 
 use ranked_terms::Seq;
-use state_match::{Groups, assigned_states};
+use state_match::{Groups, Tabled, assigned_states};
 use std::alloc::{AllocError, Global};
 use std::marker::Model;
-use ta_core::{Automaton, StateSet};
+use ta_core::StateSet;
 use trs_rules::{Pair, Rule, Sigma};
 
 /// Takes the assignments at which the left side of a rule runs, and keeps the rule's open pairs up to a limit.
 #[derive(Drop)]
 pub(crate) struct Openings<'a> {
     alloc: Global,
-    automaton: &'a Automaton,
+    automaton: &'a Tabled<'a>,
     states: &'a StateSet,
     number: u32,
     rule: &'a Rule,
@@ -46,7 +47,7 @@ impl<'a> Openings<'a> {
     /// Begins with these pairs. It takes no memory. The states are all states of the automaton.
     pub(crate) fn new(
         alloc: Global,
-        automaton: &'a Automaton,
+        automaton: &'a Tabled<'a>,
         states: &'a StateSet,
         number: u32,
         rule: &'a Rule,
@@ -123,7 +124,7 @@ fn add_pairs(
     states: &[u32],
     pairs: &mut Seq<Pair>,
 ) -> Result<(), AllocError>
-    requires { length assignment.now ≤ 16 }
+    requires { length assignment.now ≤ max_variables }
     ensures { OnOk result (pairs.new ≡ pairs.old ++ map (pair_of number assignment.now) states.now) }
 {
     for state in states {

@@ -9,7 +9,7 @@ ghost use Rattle.critical_pairs.specs.Opens.{Setting, AddsAll, ExceedsWith};
 
 use crate::openings::Openings;
 use ranked_terms::Seq;
-use state_match::each_group;
+use state_match::{Tabled, each_group};
 use std::alloc::{AllocError, Global};
 use ta_core::{Automaton, StateSet, laws};
 use trs_rules::{Pair, Rule};
@@ -52,9 +52,19 @@ pub fn open_pairs(
     // For the proof: open triples in ascending order are the list of open pairs, and there is one.
     laws::open_pairs_are_listed();
     let states = StateSet::from_slice(alloc, automaton.states())?;
+    let tabled = Tabled::new(alloc, automaton)?;
     let mut pairs = Seq::new(alloc);
     for (number, rule) in rules.iter().enumerate() {
-        pairs = with_pairs_of(alloc, automaton, &states, number as u32, rule, limit, pairs)?;
+        pairs = with_pairs_of(
+            alloc,
+            automaton,
+            &tabled,
+            &states,
+            number as u32,
+            rule,
+            limit,
+            pairs,
+        )?;
     }
     Ok(pairs)
 }
@@ -64,19 +74,21 @@ pub fn open_pairs(
 fn with_pairs_of(
     alloc: Global,
     automaton: &Automaton,
+    tabled: &Tabled,
     states: &StateSet,
     number: u32,
     rule: &Rule,
     limit: u32,
     pairs: Seq<Pair>,
 ) -> Result<Seq<Pair>, PairError>
-    requires { states.now ≡ automaton.now.states }
+    requires tabled { tabled.now ≡ automaton.now }
+    requires states { states.now ≡ automaton.now.states }
     ensures all { IfOk result (λ all.
         AddsAll (record { automaton = automaton.now; number = number; rule = rule.now }) limit pairs all) }
     ensures more { IsErrOf result PairError.More →
         ExceedsWith (record { automaton = automaton.now; number = number; rule = rule.now }) limit pairs }
 {
-    let mut openings = Openings::new(alloc, automaton, states, number, rule, limit, pairs);
+    let mut openings = Openings::new(alloc, tabled, states, number, rule, limit, pairs);
     let on = each_group(
         alloc,
         automaton,

@@ -4,4 +4,5 @@ pub mod Groups
 pub mod Rests
 pub mod Collected
 pub mod Rows
+pub mod Sets
 pub mod Laws

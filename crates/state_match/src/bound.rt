@@ -5,6 +5,7 @@ ghost use Rattle.state_match.specs.Rows.{IsFirst, IsReverse, RunsFor};
 use crate::assigned::assigned_states;
 use crate::join::narrow_whole;
 use crate::rows::no_states;
+use crate::tabled::Tabled;
 use crate::walk::Narrowed;
 use ranked_terms::Pattern;
 use std::alloc::{AllocError, Global};
@@ -17,7 +18,7 @@ pub(crate) struct Bound<'a> {
     alloc: Global,
     plain: bool,
     automaton: &'a Automaton,
-    runs: &'a Automaton,
+    runs: &'a Tabled<'a>,
     reversed: &'a Automaton,
     all: &'a StateSet,
     first: &'a StateSet,
@@ -58,7 +59,7 @@ impl<'a> Bound<'a> {
         alloc: Global,
         plain: bool,
         automaton: &'a Automaton,
-        runs: &'a Automaton,
+        runs: &'a Tabled<'a>,
         reversed: &'a Automaton,
         all: &'a StateSet,
         first: &'a StateSet,

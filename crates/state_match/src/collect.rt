@@ -1,5 +1,6 @@
 //! Lists of matches up to a limit.
 ghost use Rattle.std.specs.Prelude.{◌≤◌, length, IfOk, IsErrOf};
+ghost use Rattle.ranked_terms.specs.Limits.{max_variables};
 ghost use Rattle.list_laws.specs.Listings.{IsListing, HasMoreThan};
 ghost use Rattle.state_match.specs.Matches.{MatchesAt, match_order};
 ghost use Rattle.state_match.specs.declared.lists.Match.{Match as Found};
@@ -52,7 +53,7 @@ pub(crate) fn collected(
     plain: bool,
     limit: u32,
 ) -> Result<Seq<Match>, MatchError>
-    requires { length vars.now ≤ 16 }
+    requires { length vars.now ≤ max_variables }
     ensures all { IfOk result (λ all.
         IsListing match_order (λ (m : Found). MatchesAt plain automaton.now vars.now pattern.now m.sigma m.state) all) }
     ensures few { IfOk result (λ all. length all ≤ limit) }

@@ -1,11 +1,13 @@
 //! Matches by assignment.
 ghost use Rattle.std.specs.Prelude.{◌⊎◌, ◌≤◌, [], length, IsTrue, not, IfOk, OnErr};
+ghost use Rattle.ranked_terms.specs.Limits.{max_variables};
 ghost use Rattle.state_match.specs.Matches.{MatchesAt};
 ghost use Rattle.state_match.specs.Groups.{group_of, TookAll, TookFirst, TookUpTo};
 
 use crate::bound::Bound;
 use crate::join::first_wanted;
 use crate::plain::{reversed, runs_for};
+use crate::tabled::Tabled;
 use crate::walk::walk;
 use ranked_terms::Pattern;
 use std::alloc::{AllocError, Global};
@@ -14,6 +16,7 @@ use ta_core::{Automaton, StateSet};
 /// Takes assignments one by one, each with all its states at once.
 pub trait Groups {
     ghost use Rattle.std.specs.Prelude.{◌≤◌, length};
+    ghost use Rattle.ranked_terms.specs.Limits.{max_variables};
     ghost use Rattle.std.specs.Ordering.{nat_cmp};
     ghost use Rattle.std.specs.List.Sorted.{IsStrictlySortedBy};
     ghost use Rattle.state_match.specs.Groups.{Group};
@@ -30,7 +33,7 @@ pub trait Groups {
     /// Takes an assignment of at most 16 states with all the states to which the pattern runs by it, in ascending order, and
     /// says whether to go on. The only error is running out of memory.
     fn take(&mut self, assignment: &[u32], states: &[u32]) -> Result<bool, AllocError>
-        requires short { length assignment.now ≤ 16 }
+        requires short { length assignment.now ≤ max_variables }
         requires ascend { IsStrictlySortedBy nat_cmp states.now }
         ensures took { IfOk result (λ on. IsTrue on → took self.old (group_of assignment.now states.now) self.new) }
         ensures ended { IfOk result (λ on. IsTrue (not on) → ended self.old (group_of assignment.now states.now) self.new) }
@@ -49,7 +52,7 @@ pub fn each_group<V: Groups>(
     plain: bool,
     visitor: &mut V,
 ) -> Result<bool, AllocError>
-    requires { length vars.now ≤ 16 }
+    requires { length vars.now ≤ max_variables }
     ensures whole { IfOk result (λ on. IsTrue on →
         TookAll V.took (MatchesAt plain automaton.now vars.now pattern.now) [] visitor.old visitor.new) }
     ensures ended { IfOk result (λ on. IsTrue (not on) →
@@ -60,9 +63,10 @@ pub fn each_group<V: Groups>(
     let runs = runs_for(automaton, plain)?;
     let reversed = reversed(alloc, &runs)?;
     let all = StateSet::from_slice(alloc, runs.states())?;
-    let first = first_wanted(alloc, &runs, &reversed, &all, pattern)?;
+    let tabled = Tabled::new(alloc, &runs)?;
+    let first = first_wanted(alloc, &tabled, &reversed, &all, pattern)?;
     let start = Bound::new(
-        alloc, plain, automaton, &runs, &reversed, &all, &first, pattern, vars,
+        alloc, plain, automaton, &tabled, &reversed, &all, &first, pattern, vars,
     );
     let mut assignment = Vec::new(alloc);
     walk(&start, vars.len(), &mut assignment, visitor)

@@ -6,8 +6,10 @@ ghost use Rattle.ta_core.specs.Runs.{Runs};
 ghost use Rattle.ta_core.specs.Reached.{EntersAndReaches};
 ghost use Rattle.state_match.specs.Rows.{IsClosedBack, IsFirst, IsNextAt, IsReverse};
 
+use crate::known::Known;
 use crate::places::place_of;
 use crate::rows::{next_states, no_states};
+use crate::tabled::Tabled;
 use ranked_terms::Pattern;
 use std::alloc::{AllocError, Global};
 use ta_core::{Automaton, StateSet};
@@ -15,28 +17,38 @@ use ta_core::{Automaton, StateSet};
 /// The states to which the symbol runs where its arguments run to these sets. The only error is running out of memory.
 pub(crate) fn applied(
     alloc: Global,
-    automaton: &Automaton,
+    automaton: &Tabled,
     all: &StateSet,
     sym: u32,
-    sets: &[StateSet],
-) -> Result<StateSet, AllocError>
+    sets: &[Known],
+) -> Result<Known, AllocError>
     requires { all.now ≡ automaton.now.states }
     ensures { IfOk result (λ states. (q : ℕ) → Contains states q ↔ EntersAndReaches automaton.now sym sets.now q) }
 {
-    let targets = next_states(alloc, automaton, sym, sets, sets.len(), all)?;
-    automaton.closure_of(&targets)
+    let targets = next_states(alloc, automaton.trans(), sym, sets, sets.len(), all)?;
+    automaton.closed(targets)
+}
+
+/// The state, if it is one.
+fn one_state(alloc: Global, all: &StateSet, state: u32) -> Result<StateSet, AllocError>
+    ensures { IfOk result (λ set. (x : ℕ) → Contains set x ↔ ((state ≡ x) × Contains all.now x)) }
+{
+    if !all.contains(state) {
+        return no_states(alloc);
+    }
+    StateSet::from_slice(alloc, &[state])
 }
 
 /// The states to which the pattern runs, whatever the other variables stand for, or none where one of its own is among these.
 /// The only error is running out of memory.
 pub(crate) fn value(
     alloc: Global,
-    automaton: &Automaton,
+    automaton: &Tabled,
     all: &StateSet,
     vars: &[u32],
     bound: &[u32],
     pattern: &Pattern,
-) -> Result<Option<StateSet>, AllocError>
+) -> Result<Option<Known>, AllocError>
     requires { all.now ≡ automaton.now.states }
     ensures { IfOk result (λ states. IfSome states (λ states. (rest : List ℕ) (q : ℕ) →
         Contains states q ↔ Runs automaton.now (assigned (state_in vars.now (bound.now ++ rest)) pattern.now) q)) }
@@ -47,7 +59,8 @@ pub(crate) fn value(
             if place >= bound.len() {
                 return Ok(None);
             }
-            let states = automaton.eps_closure(bound[place])?;
+            let state = one_state(alloc, all, bound[place])?;
+            let states = automaton.closed(state)?;
             Ok(Some(states))
         }
         Pattern::App(sym, args) => {
@@ -56,7 +69,8 @@ pub(crate) fn value(
                 let Some(set) = value(alloc, automaton, all, vars, bound, arg)? else {
                     return Ok(None);
                 };
-                sets.push(set)?;
+                let listed = set.listed_if(alloc, automaton.has_many(*sym))?;
+                sets.push(listed)?;
             }
             let states = applied(alloc, automaton, all, *sym, &sets)?;
             Ok(Some(states))
@@ -68,7 +82,7 @@ pub(crate) fn value(
 /// is known. The only error is running out of memory.
 pub(crate) fn narrow(
     alloc: Global,
-    automaton: &Automaton,
+    automaton: &Tabled,
     reversed: &Automaton,
     all: &StateSet,
     vars: &[u32],
@@ -94,7 +108,10 @@ pub(crate) fn narrow(
             let mut sets = Vec::new(alloc);
             for arg in args.as_slice() {
                 match value(alloc, automaton, all, vars, bound, arg)? {
-                    Some(set) => sets.push(set)?,
+                    Some(set) => {
+                        let listed = set.listed_if(alloc, automaton.has_many(*sym))?;
+                        sets.push(listed)?;
+                    }
                     None => {
                         let count = args.as_slice().len();
                         let column = column(
@@ -113,7 +130,7 @@ pub(crate) fn narrow(
 /// As `narrow` where all states are wanted of the pattern, and these of its first argument, whatever the variables stand for.
 pub(crate) fn narrow_whole(
     alloc: Global,
-    automaton: &Automaton,
+    automaton: &Tabled,
     reversed: &Automaton,
     all: &StateSet,
     vars: &[u32],
@@ -146,7 +163,7 @@ pub(crate) fn narrow_whole(
 /// for. The only error is running out of memory.
 pub(crate) fn first_wanted(
     alloc: Global,
-    automaton: &Automaton,
+    automaton: &Tabled,
     reversed: &Automaton,
     all: &StateSet,
     pattern: &Pattern,
@@ -171,11 +188,11 @@ pub(crate) fn first_wanted(
 /// transitions, these are looked up by their targets. The only error is running out of memory.
 fn column(
     alloc: Global,
-    automaton: &Automaton,
+    automaton: &Tabled,
     reversed: &Automaton,
     all: &StateSet,
     sym: u32,
-    sets: &[StateSet],
+    sets: &[Known],
     arity: usize,
     wanted: &StateSet,
 ) -> Result<StateSet, AllocError>
@@ -186,10 +203,11 @@ fn column(
         IsNextAt automaton.now.trans sym sets.now arity wanted.now x → Contains states x) }
     ensures inside { IfOk result (All (Contains reversed.now.states)) }
 {
-    if !sets.is_empty() || automaton.trans_with(sym).len() <= wanted.as_slice().len() {
-        return next_states(alloc, automaton, sym, sets, arity, wanted);
+    if !sets.is_empty() || automaton.count_with(sym) <= wanted.as_slice().len() {
+        return next_states(alloc, automaton.trans(), sym, sets, arity, wanted);
     }
     let mut targets = Vec::new(alloc);
-    targets.push(StateSet::from_slice(alloc, wanted.as_slice())?)?;
-    next_states(alloc, reversed, sym, &targets, arity + 1, all)
+    let wanted = StateSet::from_slice(alloc, wanted.as_slice())?;
+    targets.push(Known::listed(wanted))?;
+    next_states(alloc, reversed.trans(), sym, &targets, arity + 1, all)
 }

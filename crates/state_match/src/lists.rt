@@ -1,5 +1,6 @@
 //! Matches.
 ghost use Rattle.std.specs.Prelude.{◌≡◌, ◌≤◌, ℕ, List, length, true, false, IfOk, OnOk, OnErr, IsErrOf};
+ghost use Rattle.ranked_terms.specs.Limits.{max_variables};
 ghost use Rattle.ranked_terms.specs.Terms.{variables_of};
 ghost use Rattle.list_laws.specs.Listings.{HasMoreThan};
 ghost use Rattle.state_match.specs.Visits.{GoneThrough};
@@ -64,7 +65,7 @@ pub fn matches(
     pattern: &Pattern,
     limit: u32,
 ) -> Result<Seq<Match>, MatchError>
-    requires { length (variables_of pattern.now) ≤ 16 }
+    requires { length (variables_of pattern.now) ≤ max_variables }
     ensures all { IfOk result (λ all. AreMatches false automaton.now pattern.now all) }
     ensures few { IfOk result (λ all. length all ≤ limit) }
     ensures more { IsErrOf result MatchError.More → HasMoreThan limit (IsMatch false automaton.now pattern.now) }
@@ -83,7 +84,7 @@ pub fn plain_matches(
     pattern: &Pattern,
     limit: u32,
 ) -> Result<Seq<Match>, MatchError>
-    requires { length (variables_of pattern.now) ≤ 16 }
+    requires { length (variables_of pattern.now) ≤ max_variables }
     ensures all { IfOk result (λ all. AreMatches true automaton.now pattern.now all) }
     ensures few { IfOk result (λ all. length all ≤ limit) }
     ensures more { IsErrOf result MatchError.More → HasMoreThan limit (IsMatch true automaton.now pattern.now) }
@@ -103,7 +104,7 @@ pub fn each_match<V: Visit>(
     plain: bool,
     visitor: &mut V,
 ) -> Result<(), AllocError>
-    requires { length (variables_of pattern.now) ≤ 16 }
+    requires { length (variables_of pattern.now) ≤ max_variables }
     ensures ok { OnOk result (
         (all : List Found) × AreMatches plain automaton.now pattern.now all × GoneThrough V.took visitor.old all visitor.new) }
     ensures err { OnErr result (

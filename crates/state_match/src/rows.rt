@@ -1,37 +1,39 @@
 //! Transitions by symbol and first arguments, found by binary search, and the states that stand next in them.
-ghost use Rattle.std.specs.Prelude.{◌≡◌, ◌≤◌, ◌↔◌, ℕ, suc, [], length, take, drop, get_or, Contains, IfOk, OnOk};
+ghost use Rattle.std.specs.Prelude.{◌≡◌, ◌≤◌, ◌↔◌, ℕ, suc, [], length, take, drop, get_or, Contains, IsTrue, IfOk, IfSome, OnOk};
 ghost use Rattle.std.specs.List.Sorted.{IsStrictlySortedBy, IsNonDecreasingBy};
-ghost use Rattle.ta_core.specs.TreeAutomaton.{IsSound, trans_cmp};
+ghost use Rattle.ta_core.specs.TreeAutomaton.{trans_cmp};
 ghost use Rattle.ta_core.specs.declared.trans.Trans.{Trans as Transition};
-ghost use Rattle.state_match.specs.Rows.{key_of, AreAlike, HasNext, IsNextAt};
+ghost use Rattle.state_match.specs.Rows.{key_of, AreAlike, Fits, FitsFrom, HasNext, IsNextAt};
 
+use crate::known::Known;
 use std::alloc::{AllocError, Global};
-use ta_core::{Automaton, StateSet, Trans};
+use ta_core::{StateSet, Trans};
 
-/// The states that stand next in the transitions of the symbol whose first arguments are members of these sets, which have so
-/// many arguments and lead to a wanted state. The only error is running out of memory.
+/// The states that stand next in those transitions of the symbol whose first arguments are members of these sets, which have
+/// so many arguments and lead to a wanted state. The only error is running out of memory.
 pub(crate) fn next_states(
     alloc: Global,
-    automaton: &Automaton,
+    trans: &[Trans],
     sym: u32,
-    sets: &[StateSet],
+    sets: &[Known],
     arity: usize,
     wanted: &StateSet,
 ) -> Result<StateSet, AllocError>
-    ensures sound { IsSound automaton.now }
-    ensures exact { IfOk result (λ all. (x : ℕ) → Contains all x ↔ IsNextAt automaton.now.trans sym sets.now arity wanted.now x) }
+    requires { IsStrictlySortedBy trans_cmp trans.now }
+    ensures { IfOk result (λ all. (x : ℕ) → Contains all x ↔ IsNextAt trans.now sym sets.now arity wanted.now x) }
 {
-    let rows = with_symbol(automaton.trans(), sym);
+    let rows = with_symbol(trans, sym);
     let mut found = Vec::new(alloc);
     add_next(rows, 0, sets, arity, wanted, &mut found)?;
     StateSet::from_states(alloc, found)
 }
 
-/// Adds the states that stand next.
+/// Adds the states that stand next. The members of the set at the place are tried, or the transitions are gone over where these
+/// are fewer.
 fn add_next(
     rows: &[Trans],
     place: usize,
-    sets: &[StateSet],
+    sets: &[Known],
     arity: usize,
     wanted: &StateSet,
     found: &mut Vec<u32>,
@@ -41,36 +43,82 @@ fn add_next(
     requires alike { AreAlike place rows.now }
     ensures { OnOk result (HasNext found.old.items rows.now place (drop place sets.now) arity wanted.now found.new.items) }
 {
-    if rows.is_empty() {
-        return Ok(());
-    }
     if place == sets.len() {
-        return add_here(rows, place, arity, wanted, found);
+        return add_each(rows, place, sets, arity, wanted, found);
     }
     let set = &sets[place];
-    for state in set.as_slice() {
+    let Some(list) = fewer_than(set, rows.len()) else {
+        return add_each(rows, place, sets, arity, wanted, found);
+    };
+    for state in list {
         let fewer = rows_at(rows, place, *state);
         add_next(fewer, place + 1, sets, arity, wanted, found)?;
     }
     Ok(())
 }
 
-/// Adds the states at the place.
-fn add_here(
+/// The members of the set, where they are listed and are fewer than so many.
+fn fewer_than(set: &Known, count: usize) -> Option<&[u32]>
+    ensures { IfSome result (λ list. list.now ≡ set.now) }
+{
+    let list = set.list()?;
+    if list.len() >= count {
+        return None;
+    }
+    Some(list)
+}
+
+/// Adds the states that stand next, transition by transition.
+fn add_each(
     rows: &[Trans],
     place: usize,
+    sets: &[Known],
     arity: usize,
     wanted: &StateSet,
     found: &mut Vec<u32>,
 ) -> Result<(), AllocError>
-    ensures { OnOk result (HasNext found.old.items rows.now place [] arity wanted.now found.new.items) }
+    requires { place ≤ length sets.now }
+    ensures { OnOk result (HasNext found.old.items rows.now place (drop place sets.now) arity wanted.now found.new.items) }
 {
     for t in rows {
-        if t.args.as_slice().len() == arity && wanted.contains(t.to) {
-            found.push(next_at(t, place))?;
+        if is_wanted(t, place, sets, arity, wanted) {
+            found.push(next_at(t, sets.len()))?;
         }
     }
     Ok(())
+}
+
+/// Whether the transition has so many arguments and leads to a wanted state, and its arguments from the place on are members of
+/// the sets from there on.
+fn is_wanted(t: &Trans, place: usize, sets: &[Known], arity: usize, wanted: &StateSet) -> bool
+    requires { place ≤ length sets.now }
+    ensures { IsTrue result ↔ Fits place (drop place sets.now) arity wanted.now t.now }
+{
+    let args = t.args.as_slice();
+    if args.len() != arity {
+        return false;
+    }
+    if !wanted.contains(t.to) {
+        return false;
+    }
+    fit_from(args, place, sets)
+}
+
+/// Whether the arguments from the place on are members of the sets from there on.
+fn fit_from(args: &[u32], place: usize, sets: &[Known]) -> bool
+    requires { place ≤ length sets.now }
+    ensures { IsTrue result ↔ FitsFrom place (drop place sets.now) args.now }
+{
+    if place == sets.len() {
+        return true;
+    }
+    if place >= args.len() {
+        return false;
+    }
+    if !sets[place].contains(args[place]) {
+        return false;
+    }
+    fit_from(args, place + 1, sets)
 }
 
 /// The state at the place: an argument, or behind the last one the target.
@@ -122,7 +170,7 @@ fn with_symbol(rows: &[Trans], sym: u32) -> &[Trans]
 }
 
 /// The empty set. The only error is running out of memory.
-#[tactic(auto, using(crate::proofs::Members::nothing_ascends))]
+#[tactic(auto, using(crate::proofs::members::Members::nothing_ascends))]
 pub(crate) fn no_states(alloc: Global) -> Result<StateSet, AllocError>
     ensures { IfOk result (λ all. all ≡ []) }
 {

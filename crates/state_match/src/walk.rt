@@ -1,5 +1,6 @@
 //! The walk over assignments.
 ghost use Rattle.std.specs.Prelude.{◌≡◌, ◌↔◌, ◌⊎◌, ◌+◌, ◌≤◌, ℕ, List, [], ◌∷◌, length, Contains};
+ghost use Rattle.ranked_terms.specs.Limits.{max_variables};
 ghost use Rattle.std.specs.Prelude.{IsTrue, not, IfOk, IfSome, IfNone, OnOk, OnErr};
 ghost use Rattle.state_match.specs.Groups.{TookAll, TookFirst, TookUpTo};
 
@@ -40,7 +41,7 @@ pub(crate) fn walk<N: Narrowed, V: Groups>(
     visitor: &mut V,
 ) -> Result<bool, AllocError>
     requires long { (σ : List ℕ) (q : ℕ) → N.matches rest.now σ q → length σ ≡ more }
-    requires short { length assignment.old.items + more ≤ 16 }
+    requires short { length assignment.old.items + more ≤ max_variables }
     ensures kept { OnOk result (assignment.new.items ≡ assignment.old.items) }
     ensures whole { IfOk result (λ on. IsTrue on →
         TookAll V.took (N.matches rest.now) assignment.old.items visitor.old visitor.new) }

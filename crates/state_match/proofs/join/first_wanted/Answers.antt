@@ -2,7 +2,7 @@ use Rattle.std.proofs.Common.{ℕ, List, length, ap, subst, ◌∙◌, Contains}
 use Rattle.std.proofs.lemmas.Result.{IfOk-weaker}
 use Rattle.ranked_terms.specs.declared.term.Pattern.{Pattern}
 use Rattle.state_match.specs.Rows.{IsFirst, IsNextAt}
-use Rattle.state_match.proofs.JoinLaws.{first_is, first_of_variable}
+use Rattle.state_match.proofs.members.JoinLaws.{first_is, first_of_variable}
 use Rattle.state_match.proofs.join.first_wanted.Goals as goal
 
 pub returns-in-Var : goal.returns-in-Var

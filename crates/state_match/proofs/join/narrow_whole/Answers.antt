@@ -1,6 +1,6 @@
 use Rattle.std.proofs.Common.{sym, ◌∙◌}
-use Rattle.state_match.proofs.GroupLists.{IfSome-at_some}
-use Rattle.state_match.proofs.JoinLaws.{Narrows, narrow_first, some_items}
+use Rattle.state_match.proofs.grouping.GroupLists.{IfSome-at_some}
+use Rattle.state_match.proofs.members.JoinLaws.{Narrows, narrow_first, some_items}
 use Rattle.state_match.proofs.join.narrow_whole.Goals as goal
 
 pub returns-in-Some : goal.returns-in-Some

@@ -1,5 +1,5 @@
-use Rattle.state_match.proofs.Existence as existence
-use Rattle.state_match.proofs.Uniqueness as lists
+use Rattle.state_match.proofs.listing.Existence as existence
+use Rattle.state_match.proofs.listing.Uniqueness as lists
 use Rattle.state_match.proofs.laws.matches_are_listed.Goals as goal
 
 pub returns-clause-listed : goal.returns-clause-listed

@@ -1,8 +1,8 @@
 use Rattle.std.proofs.Common.{rules, ◌∙◌}
 use Rattle.state_match.specs.Matches.{MatchesAt}
 use Rattle.ranked_terms.specs.Terms.{variables_of}
-use Rattle.state_match.proofs.Fronts.{on_err_from}
-use Rattle.state_match.proofs.EachLists.{each_all_at, each_first_at}
+use Rattle.state_match.proofs.grouping.Fronts.{on_err_from}
+use Rattle.state_match.proofs.grouping.EachLists.{each_all_at, each_first_at}
 use Rattle.state_match.proofs.lists.each_match.Goals as goal
 
 pub returns-clause-ok : goal.returns-clause-ok

@@ -4,8 +4,8 @@ use Rattle.std.specs.List.Sorted.{IsStrictlySortedBy}
 use Rattle.std.proofs.lemmas.Result.{IfOk-weaker, on_err_weaker}
 use Rattle.state_match.specs.Visits.{GoneThrough}
 use Rattle.state_match.specs.Groups.{after, group_of, TookAll, TookUpTo}
-use Rattle.state_match.proofs.GroupLists.{pushed, popped, IfSome-at_some, IfNone-at_none, passed_none, passed_all, none_left, one_left, whole_one, passed_by, passed_with, through_after}
-use Rattle.state_match.proofs.Fronts.{on_err_from, stopped_before, stopped_in, ended_in, one_over, took_none}
+use Rattle.state_match.proofs.grouping.GroupLists.{pushed, popped, IfSome-at_some, IfNone-at_none, passed_none, passed_all, none_left, one_left, whole_one, passed_by, passed_with, through_after}
+use Rattle.state_match.proofs.grouping.Fronts.{on_err_from, stopped_before, stopped_in, ended_in, one_over, took_none}
 use Rattle.state_match.proofs.walk.+walk.Goals as goal
 use Rattle.state_match.proofs.walk.+walk.Goals.{in-Some+in_ok-push+in_ok-on+else-not-on, in_default}
 

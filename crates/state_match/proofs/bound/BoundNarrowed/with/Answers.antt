@@ -1,7 +1,7 @@
 use Rattle.std.proofs.Common.{◌∙◌, sym, ap, subst, Contains, true≢false}
 use Rattle.state_match.specs.Rests.{Rest}
-use Rattle.state_match.proofs.Rests.{next_is_state, inside_more}
-use Rattle.state_match.proofs.GroupLists.{pushed}
+use Rattle.state_match.proofs.grouping.Rests.{next_is_state, inside_more}
+use Rattle.state_match.proofs.grouping.GroupLists.{pushed}
 use Rattle.state_match.proofs.bound.BoundNarrowed.with.Goals as goal
 
 pub returns-then-not-contains-clause-none : goal.returns-then-not-contains-clause-none

@@ -1,7 +1,7 @@
 use Rattle.std.proofs.Common.{refl}
 use Rattle.state_match.specs.Visits.{GoneThrough}
-use Rattle.state_match.proofs.Fronts.{on_err_from}
-use Rattle.state_match.proofs.EachLists.{go_on, go_rest}
+use Rattle.state_match.proofs.grouping.Fronts.{on_err_from}
+use Rattle.state_match.proofs.grouping.EachLists.{go_on, go_rest}
 use Rattle.state_match.proofs.each.EachGroups.take.Goals as goal
 
 pub loop-state-init : goal.loop-state-init

@@ -19,8 +19,8 @@ use Rattle.state_match.specs.Laws.{MatchesAreListed}
 use Rattle.state_match.specs.Groups.{Group, group_of}
 use Rattle.state_match.specs.Collected.{match_of, matches_of}
 use Rattle.state_match.specs.declared.lists.Match.{Match}
-use Rattle.state_match.proofs.Members.{here, there, parts, none, map_has, map_had, nothing_ascends, one_ascends, ascends_append, ascends_map}
-use Rattle.state_match.proofs.MatchLists.{of_group, group_ascends}
+use Rattle.state_match.proofs.members.Members.{here, there, parts, none, map_has, map_had, nothing_ascends, one_ascends, ascends_append, ascends_map}
+use Rattle.state_match.proofs.listing.MatchLists.{of_group, group_ascends}
 
 -- ---- lists of lists
 

@@ -10,8 +10,8 @@ use Rattle.std.proofs.lemmas.List.{map-append, append_assoc, length-take-le, get
 use Rattle.std.proofs.lemmas.Map.Keys.{Less-from_sorted}
 use Rattle.state_match.specs.Visits.{GoneThrough}
 use Rattle.state_match.specs.Groups.{Group, group_of, group_order, after, IsGroup, HasGroup, AreGroups, AreFirstGroups, TookAll, TookFirst, TookUpTo}
-use Rattle.state_match.proofs.Members.{map_has, map_had, ascends_append, ascends_map}
-use Rattle.state_match.proofs.GroupLists.{BeginsIn, group_has, less_after, less_first, take_below, first_none, through_after, regroup_one}
+use Rattle.state_match.proofs.members.Members.{map_has, map_had, ascends_append, ascends_map}
+use Rattle.state_match.proofs.grouping.GroupLists.{BeginsIn, group_has, less_after, less_first, take_below, first_none, through_after, regroup_one}
 
 all_from : {X : Type 0} (P : X → Type 0) (xs : List X) → ((x : X) → Contains xs x → P x) → All P xs
 all_from P xs h k d l = h _ (Contains-get_or xs k d l)

@@ -15,7 +15,7 @@ use Rattle.std.proofs.lemmas.List.Elements.{Contains-append_left, Contains-appen
 use Rattle.list_laws.specs.Listings.{IsFront}
 use Rattle.state_match.specs.Visits.{GoneThrough}
 use Rattle.state_match.specs.Groups.{Group, group_of, group_order, after, IsGroup, AreGroups, AreFirstGroups, TookAll}
-use Rattle.state_match.proofs.Members.{here, parts, none, map_has, map_had, nothing_ascends, one_ascends, ascends_append, ascends_map}
+use Rattle.state_match.proofs.members.Members.{here, parts, none, map_has, map_had, nothing_ascends, one_ascends, ascends_append, ascends_map}
 
 -- ---- the way of the visitor
 

@@ -19,7 +19,7 @@ use Rattle.ta_core.specs.lemmas.RunsLaws.{run_of_app, run_of_state, run_of_plain
 use Rattle.ta_core.specs.lemmas.RunStates.{AreExact, exact_more, runs_of_app, entered_and_reached}
 use Rattle.list_laws.proofs.Zips.{zip_length}
 use Rattle.state_match.specs.Rows.{FitsFrom, IsNextAt, IsClosedBack, IsFirst, IsReverse, turn, turn_row, RunsFor}
-use Rattle.state_match.proofs.Members.{here, there, none, map_has, map_had}
+use Rattle.state_match.proofs.members.Members.{here, there, none, map_has, map_had}
 
 -- ---- sets of states at their places
 
@@ -63,6 +63,10 @@ next_inside A sound f arity sets wanted all exact = all_from_members (Contains A
     let n = ((exact x).0 c).next in
     let t = All-contains (IsTransOf A.states) A.trans n.row sound.trans n.has in
     subst (Contains A.states) n.is (get_has (0 + length sets) n.row.args n.row.to (Contains A.states) t.args t.to))
+
+-- of the same transitions
+pub exact_at : (ts us : List Trans) (f count : ℕ) (sets : List (List ℕ)) (ends all : List ℕ) → ts ≡ us → ((x : ℕ) → Contains all x ↔ IsNextAt ts f sets count ends x) → (x : ℕ) → Contains all x ↔ IsNextAt us f sets count ends x
+exact_at ts us f count sets ends all e h x = subst (λ (rows : List Trans). Contains all x ↔ IsNextAt rows f sets count ends x) e (h x)
 
 -- ---- behind all arguments stands the target
 
@@ -202,6 +206,10 @@ module _ (A : TreeAutomaton) (vars bound : List ℕ) where
   value_var v place b d states at l e is rest q =
       let same : state_in vars (bound ++ rest) v ≡ b = ap (λ k. get_or (bound ++ rest) k 0) (sym at) ∙ (append_left place bound rest 0 d l ∙ sym e) in
       subst (λ c. Contains states q ↔ Runs A c q) (sym (assigned_var (state_in vars (bound ++ rest)) v ∙ ap State same)) (is q)
+
+  -- by another list of the same members
+  pub value_same : (p : Pattern) (set listed : List ℕ) → ((q : ℕ) → Contains listed q ↔ Contains set q) → IsValue p set → IsValue p listed
+  value_same p set listed same is rest q = (λ i. (is rest q).0 ((same q).0 i), λ r. (same q).1 ((is rest q).1 r))
 
   -- ---- the next variable
 

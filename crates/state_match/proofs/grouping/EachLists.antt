@@ -10,15 +10,15 @@ use Rattle.std.proofs.lemmas.List.{append_assoc}
 use Rattle.std.proofs.lemmas.List.Elements.{All-contains, All-from_recursion, Contains-append_cases, Contains-append_left, Contains-append_right}
 use Rattle.list_laws.proofs.Members.{all_from_members}
 use Rattle.state_match.specs.Matches.{match_order}
-use Rattle.state_match.proofs.Members.{none, parts}
-use Rattle.state_match.proofs.MatchLists.{had, has, matches_ascend, are_matches, each_match, beginning, flat_map_last}
+use Rattle.state_match.proofs.members.Members.{none, parts}
+use Rattle.state_match.proofs.listing.MatchLists.{had, has, matches_ascend, are_matches, each_match, beginning, flat_map_last}
 use Rattle.std.proofs.lemmas.List.{take_more, take-append-drop, map-append}
 use Rattle.list_laws.specs.Listings.{IsListing, IsFront}
 use Rattle.state_match.specs.Visits.{GoneThrough}
 use Rattle.state_match.specs.Groups.{Group, group_of, after, AreFirstGroups, TookAll, TookFirst, TookUpTo}
 use Rattle.state_match.specs.Collected.{match_of, matches_of}
 use Rattle.state_match.specs.declared.lists.Match.{Match}
-use Rattle.state_match.proofs.GroupLists.{through_append}
+use Rattle.state_match.proofs.grouping.GroupLists.{through_append}
 
 -- one more match of a group
 pub go_on : {V : Type 0} (took : V → Match → V → Type 0) {u v w : V} (σ states : List ℕ) (i : ℕ) (τ : List ℕ) → τ ≡ σ → i < length states →

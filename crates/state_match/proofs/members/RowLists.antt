@@ -1,5 +1,5 @@
 -- Parts of sorted transitions, and what stands next in them.
-use Rattle.std.proofs.Common.{◌≡◌, ◌↔◌, ◌≤◌, ◌<◌, ◌+◌, ℕ, zero, suc, List, [], ◌∷◌, ◌++◌, length, take, drop, get_or, refl, sym, ap, ◌∙◌, subst, inl, inr, ⊎_elim, true, ◌==◌, eqb-true, arith}
+use Rattle.std.proofs.Common.{◌≡◌, ◌↔◌, ◌≤◌, ◌<◌, ◌+◌, ℕ, zero, suc, List, [], ◌∷◌, ◌++◌, length, take, drop, get_or, refl, sym, ap, ◌∙◌, subst, inl, inr, ⊎_elim, arith}
 use Rattle.std.specs.List.{Contains}
 use Rattle.std.specs.declared.cmp.Ordering.{Ordering}
 use Rattle.std.specs.declared.cmp.Ordering.TheVariants.{Less, Equal}
@@ -9,12 +9,12 @@ use Rattle.std.specs.List.Sorted.{IsStrictlySortedBy, IsNonDecreasingBy}
 use Rattle.std.proofs.Math.Nat.{eq-or-lt_of_le}
 use Rattle.std.proofs.lemmas.Bool.Decides.{nat_tests}
 use Rattle.std.proofs.lemmas.Map.Keys.{Less-from_sorted}
-use Rattle.std.proofs.lemmas.List.{drop_more, drop_all, take_all, take_more}
+use Rattle.std.proofs.lemmas.List.{drop_more, take_all, take_more}
 use Rattle.std.proofs.lemmas.List.Elements.{All-take, All-from_recursion, recursion_from_All, Contains-get_or, Contains-append_left, Contains-push, Contains-push_cases}
 use Rattle.ta_core.specs.TreeAutomaton.{trans_cmp}
 use Rattle.ta_core.specs.declared.trans.Trans.{Trans}
-use Rattle.state_match.specs.Rows.{key_of, AreAlike, FitsFrom, IsNext, HasNext, IsNextAt}
-use Rattle.state_match.proofs.Members.{none}
+use Rattle.state_match.specs.Rows.{key_of, AreAlike, Fits, FitsFrom, IsNext, HasNext, IsNextAt}
+use Rattle.state_match.proofs.members.Members.{none}
 
 -- ---- parts of a sorted list
 
@@ -97,32 +97,30 @@ module _ {place arity : ℕ} {sets : List (List ℕ)} {wanted : List ℕ} (done 
   later : (x : ℕ) → IsNext done place sets arity wanted x → IsNext (done ++ t ∷ []) place sets arity wanted x
   later x h = record { row = h.row; has = Contains-append_left done (t ∷ []) h.row h.has; fits = h.fits; arity = h.arity; wanted = h.wanted; is = h.is }
 
-  pub row_skipped : (old all : List ℕ) → HasNext old done place sets arity wanted all → (length t.args ≡ arity → Contains wanted t.to → ⊥) → HasNext old (done ++ t ∷ []) place sets arity wanted all
+  pub row_skipped : (old all : List ℕ) → HasNext old done place sets arity wanted all → (Fits place sets arity wanted t → ⊥) → HasNext old (done ++ t ∷ []) place sets arity wanted all
   row_skipped old all exact unfit x = (
     λ c. ⊎_elim (λ before. inl before) (λ h. inr (later x h)) ((exact x).0 c),
     λ h. ⊎_elim (λ before. (exact x).1 (inl before)) (λ (n : IsNext (done ++ t ∷ []) place sets arity wanted x). ⊎_elim
         (λ c. (exact x).1 (inr (record { row = n.row; has = c; fits = n.fits; arity = n.arity; wanted = n.wanted; is = n.is })))
-        (λ same. absurd (unfit (subst (λ (u : Trans). length u.args ≡ arity) (sym same) n.arity) (subst (λ (u : Trans). Contains wanted u.to) (sym same) n.wanted)))
+        (λ same. absurd (unfit (subst (Fits place sets arity wanted) (sym same) (record { arity = n.arity; fits = n.fits; wanted = n.wanted }))))
         (Contains-push_cases done t n.row n.has)) h,
   )
 
-pub row_taken : {place arity : ℕ} {wanted : List ℕ} (done : List Trans) (t : Trans) (old all next : List ℕ) → HasNext old done place [] arity wanted all → length t.args ≡ arity → Contains wanted t.to →
-    next ≡ all ++ get_or t.args place t.to ∷ [] → HasNext old (done ++ t ∷ []) place [] arity wanted next
-row_taken {place} {arity} {wanted} done t old all next exact long want e x =
-    let y : ℕ = get_or t.args place t.to in
-    let at : get_or t.args (place + 0) t.to ≡ y = ap (λ n. get_or t.args n t.to) (omega arith) in (
-      λ c. ⊎_elim
-          (λ c. ⊎_elim (λ before. inl before) (λ h. inr (later done t x h)) ((exact x).0 c))
-          (λ (same : y ≡ x). inr (record { row = t; has = Contains-push done t; fits = tt; arity = long; wanted = want; is = at ∙ same }))
-          (Contains-push_cases all y x (subst (λ xs. Contains xs x) e c)),
-      λ h. subst (λ xs. Contains xs x) (sym e) (⊎_elim
-          (λ before. Contains-append_left all (y ∷ []) x ((exact x).1 (inl before)))
-          (λ (n : IsNext (done ++ t ∷ []) place [] arity wanted x). ⊎_elim
-          (λ c. Contains-append_left all (y ∷ []) x ((exact x).1 (inr (record { row = n.row; has = c; fits = tt; arity = n.arity; wanted = n.wanted; is = n.is }))))
-          (λ same. subst (Contains (all ++ y ∷ [])) (sym at ∙ (ap (λ (u : Trans). get_or u.args (place + 0) u.to) same ∙ n.is)) (Contains-push all y))
-          (Contains-push_cases done t n.row n.has))
-          h),
-    )
+  pub row_taken : (old all next : List ℕ) (y : ℕ) → HasNext old done place sets arity wanted all → Fits place sets arity wanted t → y ≡ get_or t.args (place + length sets) t.to → next ≡ all ++ y ∷ [] →
+      HasNext old (done ++ t ∷ []) place sets arity wanted next
+  row_taken old all next y exact fits at e x = (
+    λ c. ⊎_elim
+        (λ c. ⊎_elim (λ before. inl before) (λ h. inr (later x h)) ((exact x).0 c))
+        (λ (same : y ≡ x). inr (record { row = t; has = Contains-push done t; fits = fits.fits; arity = fits.arity; wanted = fits.wanted; is = sym at ∙ same }))
+        (Contains-push_cases all y x (subst (λ xs. Contains xs x) e c)),
+    λ h. subst (λ xs. Contains xs x) (sym e) (⊎_elim
+        (λ before. Contains-append_left all (y ∷ []) x ((exact x).1 (inl before)))
+        (λ (n : IsNext (done ++ t ∷ []) place sets arity wanted x). ⊎_elim
+        (λ c. Contains-append_left all (y ∷ []) x ((exact x).1 (inr (record { row = n.row; has = c; fits = n.fits; arity = n.arity; wanted = n.wanted; is = n.is }))))
+        (λ same. subst (Contains (all ++ y ∷ [])) (at ∙ (ap (λ (u : Trans). get_or u.args (place + length sets) u.to) same ∙ n.is)) (Contains-push all y))
+        (Contains-push_cases done t n.row n.has))
+        h),
+  )
 
 pub no_row : {place arity : ℕ} {sets : List (List ℕ)} {wanted : List ℕ} (old : List ℕ) → HasNext old [] place sets arity wanted old
 no_row {place} {arity} {sets} {wanted} old x = (λ c. inl c, λ h. ⊎_elim (λ c. c) (λ (n : IsNext [] place sets arity wanted x). absurd (none n.row n.has)) h)
@@ -188,11 +186,7 @@ next_of_symbol trans rows f arity sets wanted old all e members exact x = (
   λ h. (exact x).1 (inr (record { row = h.next.row; has = (members h.next.row).1 (h.next.has, h.symbol); fits = h.next.fits; arity = h.next.arity; wanted = h.next.wanted; is = h.next.is })),
 )
 
--- no set is left, and one more
-pub at_end : {place arity : ℕ} {wanted : List ℕ} (rows : List Trans) (sets : List (List ℕ)) (old all : List ℕ) → length sets ≤ place → HasNext old rows place [] arity wanted all →
-    HasNext old rows place (drop place sets) arity wanted all
-at_end {place} {arity} {wanted} rows sets old all l h = subst (λ (ss : List (List ℕ)). HasNext old rows place ss arity wanted all) (sym (drop_all place sets l)) h
-
+-- one more set
 pub at_more : {place arity : ℕ} {wanted : List ℕ} (rows : List Trans) (sets : List (List ℕ)) (d set : List ℕ) (i : ℕ) (old all : List ℕ) → place < length sets → set ≡ get_or sets place d → length set ≤ i →
     HasNext old rows place (take i set ∷ drop (place + 1) sets) arity wanted all → HasNext old rows place (drop place sets) arity wanted all
 at_more {place} {arity} {wanted} rows sets d set i old all l e end h =
@@ -205,7 +199,3 @@ pub state_more : {place arity : ℕ} {sets : List (List ℕ)} {wanted : List ℕ
 state_more {place} {arity} {sets} {wanted} rows fewer set i d s old all next l e members exact more =
     subst (λ (xs : List ℕ). HasNext old rows place (xs ∷ sets) arity wanted next) ((λ k. take i set ++ e k ∷ []) ∙ sym (take_more set i d l))
     (state_taken rows fewer (take i set) s old all next members exact more)
-
-pub no_rows : {place arity : ℕ} {sets : List (List ℕ)} {wanted : List ℕ} (rows : List Trans) (old : List ℕ) → (length rows == 0) ≡ true → HasNext old rows place sets arity wanted old
-no_rows [] old e = no_row old
-no_rows (t ∷ rows) old e = let z : length (t ∷ rows) ≡ 0 = eqb-true _ _ e in absurd (omega arith)

@@ -17,8 +17,8 @@ use Rattle.state_match.specs.Groups.{Group, group_of, after, group_order, AreGro
 use Rattle.state_match.specs.Collected.{match_of, matches_of, Adds, Fills}
 use Rattle.state_match.specs.declared.lists.Match.{Match}
 use Rattle.state_match.specs.declared.collect.Collector.{Collector}
-use Rattle.state_match.proofs.Uniqueness.{match_order_total}
-use Rattle.state_match.proofs.Members.{here, there, parts, none, map_has, map_had, nothing_ascends, ascends_append, ascends_map}
+use Rattle.state_match.proofs.listing.Uniqueness.{match_order_total}
+use Rattle.state_match.proofs.members.Members.{here, there, parts, none, map_has, map_had, nothing_ascends, ascends_append, ascends_map}
 
 -- a match of one of the groups
 pub record HasMatch (gs : List Group) (m : Match) : Type 0 where

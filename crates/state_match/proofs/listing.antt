@@ -1,0 +1,3 @@
+pub mod MatchLists
+pub mod Uniqueness
+pub mod Existence

@@ -1,0 +1,6 @@
+pub mod Members
+pub mod RowLists
+pub mod RowFits
+pub mod MarkedSets
+pub mod Reaching
+pub mod JoinLaws
