@@ -1,0 +1,4 @@
+pub mod quotients
+pub mod least
+pub mod finding
+pub mod keeping

@@ -1,0 +1,3 @@
+-- Merging keeps coherence.
+pub mod Coherence
+pub mod MergedCoherence

@@ -1,0 +1,9 @@
+pub mod Shapes
+pub mod Assigning
+pub mod Asking
+pub mod Existence
+pub mod Stays
+pub mod OneResult
+pub mod Parts
+pub mod PutSteps
+pub mod PairSteps
