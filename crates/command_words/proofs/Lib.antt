@@ -1,0 +1,9 @@
+pub mod Faults
+pub mod Walked
+pub mod Forms
+pub mod Ordinary
+pub mod WalkAndRule
+pub mod CompleteLine
+pub mod Outcomes
+pub mod Numbers
+pub mod Adding
