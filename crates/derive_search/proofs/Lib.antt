@@ -1,0 +1,10 @@
+pub mod StoreFacts
+pub mod StepLaws
+pub mod Counts
+pub mod Levels
+pub mod GrowthLaws
+pub mod Ends
+pub mod SearchLaws
+pub mod StateSetLaws
+pub mod OneAnswer
+pub mod pairs

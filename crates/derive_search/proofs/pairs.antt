@@ -1,0 +1,10 @@
+pub mod MadeLaws
+pub mod LowPairLaws
+pub mod CombineLaws
+pub mod KnownLaws
+pub mod OldFirst
+pub mod RoundLaws
+pub mod LowRounds
+pub mod StartLaws
+pub mod Printing
+pub mod TextOrder

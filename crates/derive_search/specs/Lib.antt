@@ -1,0 +1,10 @@
+pub mod Starts
+pub mod TermsAnswer
+pub mod Search
+pub mod Levels
+pub mod Growing
+pub mod Laws
+pub mod Made
+pub mod StateSets
+pub mod LowPairs
+pub mod TextOrder

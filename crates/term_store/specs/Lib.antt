@@ -1,0 +1,4 @@
+pub mod Store
+pub mod Found
+pub mod Rooted
+pub mod Index
