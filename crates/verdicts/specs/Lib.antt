@@ -1,0 +1,5 @@
+pub mod Verdicts
+pub mod Shown
+pub mod Completing
+pub mod VerdictLaws
+pub mod Answers
