@@ -1,22 +1,21 @@
 #!/usr/bin/env python3
-"""Measures what the gate takes, and prints the tables of docs/TIMES.md.
+"""Measures what the gate takes, crate by crate, and prints the table of docs/TIMES.md.
 
-    bench/gate_times.py [NAME ..]   of each crate, or of the named ones, its proof, its tests and its must-fail edits
-    bench/gate_times.py --gate      the whole gate from nothing, `rt ci`
+    bench/gate_times.py                 runs `rt ci --anew`, so everything from nothing, in a copy, and prints its table
+    bench/gate_times.py --watch FILE    watches each `rt ci` that runs on this machine, also `rt ci NAME ..`, and keeps in
+                                        FILE what it has seen so far, until it is stopped
+    bench/gate_times.py --table FILE    prints the table of such a file
 
-All of it runs in a copy of the repository, in a folder of its own that is removed afterwards; the repository itself stays
-as it is. Times are processor minutes: the user's and the system's time of all processes of a step, so what else runs on the
-machine makes little difference. For the whole gate the minutes by the clock stand beside them.
-
-A measured crate is proved from nothing, each step with one job. The libraries below it are taken with the work that is kept
-of them, or built first, which isn't counted. The tests of a crate are checked together with its code, which is proved once
-more for them, and its edits are tried in turn, each over the work of those before it: all as in the gate. What the gate does
-besides isn't counted: two compilers build the programs and the tests, and these are run, which takes seconds.
+`rt ci` says nothing of times, so its processes are looked at every second: those of the prover say which crate they are at,
+and whether they prove the crate, its tests, or one of its must-fail edits. Times are processor minutes, the user's and the
+system's, so what else runs on the machine makes little difference. What a process takes in its last second is lost, and
+what `rt ci` does besides isn't counted: two compilers build the programs and the tests, and these are run, which takes
+seconds. Where a crate was proved more than once, its last proof counts. A crate that `rt ci` has kept from an earlier run
+isn't proved, so it isn't in the table. Linux alone has what is looked at.
 """
 
+import json
 import os
-import re
-import resource
 import shutil
 import subprocess
 import sys
@@ -24,137 +23,140 @@ import tempfile
 import time
 
 HOME = os.path.dirname(os.path.dirname(os.path.abspath(__file__)))
+KINDS = ["proof", "tests", "edits"]
+TICKS = os.sysconf("SC_CLK_TCK")
 
 
-def crates():
-    """The crates, each with those of the repository that it stands on, in the order of crates.txt."""
-    with open(os.path.join(HOME, "crates.txt"), encoding="utf-8") as file:
-        lines = [line.partition("#")[0] for line in file]
-    uses = {head.split()[0]: deps.split() for head, colon, deps in (line.partition(":") for line in lines) if colon}
-    return {name: [it for it in deps if it in uses] for name, deps in uses.items()}
-
-
-def lowest_first(uses):
-    """The names, each after those that it stands on."""
-    found = []
-
-    def visit(name):
-        for below in uses[name]:
-            visit(below)
-        if name not in found:
-            found.append(name)
-
-    for name in uses:
-        visit(name)
+def processes():
+    """All processes: their words, their parents, and the seconds that each has taken with its children that have ended."""
+    found = {}
+    for name in os.listdir("/proc"):
+        if name.isdigit():
+            try:
+                with open(f"/proc/{name}/cmdline", "rb") as file:
+                    words = file.read().decode(errors="replace").split("\0")
+                with open(f"/proc/{name}/stat", encoding="utf-8", errors="replace") as file:
+                    fields = file.read().rpartition(")")[2].split()
+            except OSError:
+                continue
+            taken = sum(map(int, fields[11:15])) / TICKS
+            found[int(name)] = words, int(fields[1]), taken, int(fields[19])
     return found
 
 
-def copy_of(room, kept):
-    """A copy of the repository, with the work that is kept of these crates alone."""
-
-    def left_out(folder, names):
-        inside = os.path.relpath(folder, HOME).split(os.sep)
-        is_kept = inside[0] == "crates" and len(inside) == 2 and inside[1] in kept
-        return [it for it in names if it == ".git" or (it == "out" and not is_kept)]
-
-    return shutil.copytree(HOME, os.path.join(room, "copy"), ignore=left_out, symlinks=True)
+def is_gate(words):
+    at = next((i for i, word in enumerate(words) if os.path.basename(word) == "rt"), None)
+    return at is not None and words[at + 1 : at + 2] == ["ci"]
 
 
-def processor_seconds(folder, *words):
-    """The processor seconds that a command takes in the folder. It has to pass."""
-    before = resource.getrusage(resource.RUSAGE_CHILDREN)
-    how = {"stdin": subprocess.DEVNULL, "stdout": subprocess.PIPE, "stderr": subprocess.STDOUT, "errors": "replace"}
-    ran = subprocess.run(words, cwd=folder, check=False, **how)
-    after = resource.getrusage(resource.RUSAGE_CHILDREN)
-    if ran.returncode:
-        sys.exit(f"{' '.join(words)} failed in {folder}:\n{ran.stdout[-3000:]}")
-    return after.ru_utime + after.ru_stime - before.ru_utime - before.ru_stime
+def is_prover(words):
+    return os.path.basename(words[0]) == "rattle" and "--crate-name" in words
 
 
-def has_tests(folder):
-    for at, _, names in os.walk(os.path.join(folder, "src")):
-        for name in names:
-            with open(os.path.join(at, name), encoding="utf-8") as file:
-                if re.search(r"^\s*#\[test\]", file.read(), re.M):
-                    return True
-    return False
+def kind_of(words):
+    after = words[words.index("--incremental") + 1] if "--incremental" in words else ""
+    if "rt-edits-" in after:
+        return "edits"
+    return "tests" if "--test" in words else "proof"
 
 
-def edits_in(folder):
-    edits = os.path.join(folder, "must-fail")
-    return sum(it.endswith(".edit") for it in os.listdir(edits)) if os.path.isdir(edits) else 0
+def look(seen):
+    """Adds to what was seen of each prover that a gate has started; its own children count with it."""
+    now = processes()
+    children = {}
+    for pid, (_, parent, _, _) in now.items():
+        children.setdefault(parent, []).append(pid)
+
+    def whole(pid):
+        return now[pid][2] + sum(map(whole, children.get(pid, [])))
+
+    gates = [pid for pid, (words, _, _, _) in now.items() if is_gate(words)]
+    for gate in gates:
+        for pid in children.get(gate, []):
+            words, _, _, start = now[pid]
+            if is_prover(words):
+                crate = words[words.index("--crate-name") + 1]
+                run = seen.setdefault(f"{crate} {kind_of(words)}", {}).setdefault(f"{now[gate][3]} {gate}", {})
+                run[f"{start} {pid}"] = whole(pid)
+    return gates
 
 
-def times_of(top, name, below):
-    """The processor seconds of a crate's proof, of its tests and of its edits, and how many edits it has."""
-    folder = os.path.join(top, "crates", name)
-    for library in below:
-        processor_seconds(os.path.join(top, "crates", library), "rt", "lib", "--jobs", "1")
-    is_program = os.path.exists(os.path.join(folder, "src", "main.rt"))
-    proof = processor_seconds(folder, "rt", "check" if is_program else "lib", "--jobs", "1")
-    tests = 0.0
-    if has_tests(folder):
-        # The tests are checked from nothing too, so the work that is kept of the proof waits beside it.
-        kept = os.path.join(folder, "out", "incremental")
-        os.rename(kept, kept + ".aside")
-        tests = processor_seconds(folder, "rt", "check", "--test", "--jobs", "1")
-        shutil.rmtree(kept)
-        os.rename(kept + ".aside", kept)
-    count = edits_in(folder)
-    edits = processor_seconds(top, "rt", "must-fail", name) if count else 0.0
-    return proof, tests, edits, count
+def last_of(runs):
+    """The seconds of the last run, and how many provers it started."""
+    if not runs:
+        return 0.0, 0
+    last = runs[max(runs, key=lambda it: int(it.split()[0]))]
+    return sum(last.values()), len(last)
+
+
+def crates():
+    with open(os.path.join(HOME, "crates.txt"), encoding="utf-8") as file:
+        return [line.split(":")[0] for line in file if ":" in line and not line.startswith("#")]
+
+
+def edits_in(name):
+    folder = os.path.join(HOME, "crates", name, "must-fail")
+    return sum(it.endswith(".edit") for it in os.listdir(folder)) if os.path.isdir(folder) else 0
 
 
 def minutes(seconds):
     return f"{seconds / 60:.1f}" if seconds else "-"
 
 
-def each_crate(names):
-    uses = crates()
-    order = lowest_first(uses)
-    wanted = [it for it in order if not names or it in names]
-    unknown = [it for it in names if it not in uses]
-    if unknown:
-        sys.exit(f"crates.txt has no crate {unknown[0]}")
-    sums = [0.0, 0.0, 0.0]
+def print_table(seen):
+    sums = [0.0] * len(KINDS)
     print("| crate | proof | tests | edits | in all |\n|---|---|---|---|---|")
-    with tempfile.TemporaryDirectory(prefix="gate-times-") as room:
-        below_all = set().union(*(closure(uses, name) for name in wanted))
-        top = copy_of(room, below_all - set(wanted))
-        for name in wanted:
-            below = [it for it in order if it in closure(uses, name)]
-            *times, count = times_of(top, name, below)
+    for name in crates():
+        times = [last_of(seen.get(f"{name} {kind}"))[0] for kind in KINDS]
+        if any(times):
             sums = [a + b for a, b in zip(sums, times)]
-            edits = f"{minutes(times[2])} ({count})" if count else "-"
-            print(f"| `{name}` | {minutes(times[0])} | {minutes(times[1])} | {edits} | {minutes(sum(times))} |", flush=True)
-    print(f"| in all | {minutes(sums[0])} | {minutes(sums[1])} | {minutes(sums[2])} | {minutes(sum(sums))} |")
+            cells = [minutes(times[0]), minutes(times[1]), f"{minutes(times[2])} ({edits_in(name)})" if times[2] else "-"]
+            print(f"| `{name}` | {' | '.join(cells)} | {minutes(sum(times))} |")
+    print(f"| in all | {' | '.join(map(minutes, sums))} | {minutes(sum(sums))} |")
 
 
-def closure(uses, name):
-    """The crates that a crate stands on, those below them among them."""
-    found = set()
-    for below in uses[name]:
-        found |= {below} | closure(uses, below)
-    return found
+def watch(path):
+    seen = {}
+    if os.path.exists(path):
+        with open(path, encoding="utf-8") as file:
+            seen = json.load(file)
+    while True:
+        if look(seen):
+            with open(path + ".new", "w", encoding="utf-8") as file:
+                json.dump(seen, file)
+            os.replace(path + ".new", path)
+        time.sleep(1)
 
 
 def whole_gate():
     with tempfile.TemporaryDirectory(prefix="gate-times-") as room:
-        top = copy_of(room, set())
-        start = time.monotonic()
-        spent = processor_seconds(top, "rt", "ci")
-        took = time.monotonic() - start
-        print(f"{os.cpu_count()} processors: {spent / 60:.0f} processor minutes, {took / 60:.0f} minutes by the clock")
+        top = shutil.copytree(HOME, os.path.join(room, "copy"), ignore=shutil.ignore_patterns(".git", "out"), symlinks=True)
+        start, seen = time.monotonic(), {}
+        with open(os.path.join(room, "log"), "w+", encoding="utf-8", errors="replace") as log:
+            gate = subprocess.Popen(["rt", "ci", "--anew"], cwd=top, stdin=subprocess.DEVNULL, stdout=log, stderr=log)
+            while gate.poll() is None:
+                look(seen)
+                time.sleep(1)
+            log.seek(0)
+            last = log.read().splitlines()[-1:]
+        print_table(seen)
+        took = (time.monotonic() - start) / 60
+        print(f"{os.cpu_count()} processors, {took:.0f} minutes by the clock: {' '.join(last)}")
+        return gate.returncode
 
 
 def main():
-    if sys.argv[1:] == ["--gate"]:
-        whole_gate()
-    elif any(it.startswith("-") for it in sys.argv[1:]):
-        sys.exit(__doc__.strip())
-    else:
-        each_crate(sys.argv[1:])
+    words = sys.argv[1:]
+    if not words:
+        return whole_gate()
+    if len(words) == 2 and words[0] == "--watch":
+        return watch(words[1])
+    if len(words) == 2 and words[0] == "--table":
+        with open(words[1], encoding="utf-8") as file:
+            print_table(json.load(file))
+        return 0
+    return __doc__.strip()
 
 
 if __name__ == "__main__":
-    main()
+    sys.exit(main())

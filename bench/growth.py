@@ -8,7 +8,9 @@ makes specifications of growing size, whose states and transitions stand in rand
 Times are those of the processor, the shortest of several runs.
 
 With one program it prints the time for a byte and, for each line but a family's first, by how much it differs from the line
-before. A ratio near 1 is linear growth. PROGRAM is the built program; without it that of this repository is taken.
+before. A ratio near 1 is linear growth. For the families of the search that is the time for a term or a rule, of which
+there are as many as the line counts, and the memory beside it, in MB, is the most that a run took. PROGRAM is the built
+program; without it that of this repository is taken.
 
 With two programs it runs them in turn on each specification, and prints the time of each and how many times the old one's
 the new one's is. A ratio below 1 says that the new one is faster. Nothing is tested here, but that answers which differ are
@@ -22,6 +24,28 @@ Families:
   swapping  one rule over two variables, and a closed automaton: for each state of the first variable the states that are
             tried for the second one are found anew
   missing   no rule, two automata that have no term in common: there is a mark for each pair of their states
+  unserved  one rule over so many variables, and three states between which no transition serves it
+  wide      one rule over three variables, with a transition for each state
+  chain     one rule s(x) -> x, and a chain of epsilon transitions through all states: a state runs to half of them
+  rungs     the same with a transition of s for each state
+  dense     one rule s(f(x,y)) -> f(s(x),s(y)), and half as many transitions of f as there are states
+  flat      one rule whose two sides are f(x,y), and twice as many transitions of f as there are states: they match once each
+  deep      the same with f(f(x,y),z): each transition matches with those from its target
+  pairs     one rule f(x,y) -> y, and 32 open pairs for each state but a few
+  rounds    so many chains of rules c0 -> c1, .., c17 -> c18, from each first constant: one state and up to 18 epsilon
+            transitions a chain and a round, in 18 rounds
+  forking   rules c0(x) -> p(c1(l(x)),c1(r(x))), .. of so many levels: each round makes twice as many states
+  folding   s(s(x)) = x and f(x,y) = f(y,x), over a third more transitions than states
+  cascade   a = b and s(x) = s(x), and two chains of s of so many states: each merge forces the next one
+  nested    the same by a = b and s(t(x)) = s(t(x)), in chains of s and t in turn
+  repeated  the same by a = b and g(x,x) = k(x): g from the last pair that was merged, and k from its first state
+  all_one   x = y: all states are one
+
+Families of the search, without rounds of completion:
+  trees     one rule d(x) -> c(d(x),d(x)), and as many terms as the search may keep
+  doubling  one rule e(x) -> e(c(x,x)), and ten terms from each start: the last has 1,024 symbols, but shares its parts
+  low       so many terms of at most height 4, all starts, and no rule
+  ruled     so many rules on one symbol, all tried at each of some 100 terms
 """
 
 import os
@@ -97,27 +121,228 @@ def missing(count, chance):
     return text
 
 
+def unserved(count, chance):
+    names = " ".join(f"x{i}" for i in range(count))
+    sides = ",".join(f"x{i}" for i in range(count))
+    head = f"Ops a:0 f:{count} g:{count}\nVars {names}\nTRS R\nf({sides}) -> g({sides})\n"
+    states = ["q0", "q1", "q2"]
+    return head + automaton("A", states, ["a -> q0", "q0 -> q1", "q1 -> q2"], ["q0"], chance)
+
+
+def wide(count, chance):
+    states = [f"q{i}" for i in range(count)]
+    transitions = ["a -> q0"]
+    for i in range(count):
+        second, third, target = (chance.randrange(count) for _ in range(3))
+        transitions += [f"f(q{i},q{second},q{third}) -> q{target}", f"g(q{third},q{i},q{second}) -> q{target}"]
+    head = "Ops a:0 f:3 g:3\nVars x y z\nTRS R\nf(x,y,z) -> g(z,x,y)\n"
+    return head + automaton("A", states, transitions, ["q0"], chance)
+
+
+def chained(count, chance, rungs):
+    """A chain of epsilon transitions in random order of the states' numbers, and transitions of s at the places of it."""
+    states = [f"q{i}" for i in range(count)]
+    way = shuffled(states, chance)
+    transitions = ["a -> " + way[0]] + [f"{way[i]} -> {way[i + 1]}" for i in range(count - 1)]
+    transitions += [f"s({way[i]}) -> {way[i]}" for i in rungs]
+    return "Ops a:0 s:1\nVars x\nTRS R\ns(x) -> x\n" + automaton("A", states, transitions, [way[0]], chance)
+
+
+def chain(count, chance):
+    return chained(count, chance, [count - 1])
+
+
+def rungs(count, chance):
+    return chained(count, chance, range(count))
+
+
+def dense(count, chance):
+    states = [f"q{i}" for i in range(count)]
+    transitions = ["a -> q0"] + [f"s({state}) -> {state}" for state in states]
+    for _ in range(count // 2):
+        left, right, target = (chance.randrange(count) for _ in range(3))
+        transitions.append(f"f(q{left},q{right}) -> q{target}")
+    head = "Ops a:0 s:1 f:2\nVars x y\nTRS R\ns(f(x,y)) -> f(s(x),s(y))\n"
+    return head + automaton("A", states, transitions, ["q0"], chance)
+
+
+def searching(rules, transitions, symbols, finals):
+    """A specification whose forbidden automaton accepts nothing that is reached."""
+    head = f"Ops {symbols} never:0\nVars x\nTRS R\n" + "".join(rule + "\n" for rule in rules)
+    init = "Automaton A\nStates q0 q1\nFinal States " + finals + "\nTransitions\n" + "\n".join(transitions) + "\n"
+    return head + init + "Automaton Bad\nStates p0\nFinal States p0\nTransitions\nnever -> p0\n"
+
+
+def options(steps, terms):
+    return ["--rounds", "0", "--steps", str(steps), "--terms", str(terms)]
+
+
+def trees(count):
+    text = searching(["d(x) -> c(d(x),d(x))"], ["a -> q0", "d(q0) -> q1"], "a:0 d:1 c:2", "q1")
+    return text, options(100, count)
+
+
+def doubling(count):
+    names = [f"a{i}" for i in range(count // 10)]
+    symbols = " ".join(f"{name}:0" for name in names) + " c:2 e:1"
+    text = searching(["e(x) -> e(c(x,x))"], [f"{name} -> q0" for name in names] + ["e(q0) -> q1"], symbols, "q1")
+    return text, options(9, 50000)
+
+
+def low(count):
+    """Constants under up to three of eight symbols: 585 terms for each constant."""
+    names, over = [f"a{i}" for i in range(count // 585)], [f"s{i}" for i in range(8)]
+    symbols = " ".join([f"{name}:0" for name in names] + [f"{name}:1" for name in over])
+    text = searching([], [f"{name} -> q0" for name in names] + [f"{name}(q0) -> q0" for name in over], symbols, "q0")
+    return text, options(5, 5000)
+
+
+def ruled(count):
+    names = [f"a{i}" for i in range(max(100, count // 2))]
+    symbols = " ".join(f"{name}:0" for name in names) + " f:1"
+    sides = [(names[i % len(names)], names[(i % len(names) + 1 + i // len(names)) % len(names)]) for i in range(count)]
+    rules = [f"f({left}) -> f({right})" for left, right in sides]
+    return searching(rules, [f"{names[0]} -> q0", "f(q0) -> q1"], symbols, "q1"), options(50, 50000)
+
+
+SEARCHES = [
+    (trees, [12500, 25000, 50000]),
+    (doubling, [5000, 10000, 20000]),
+    (low, [1170, 2340, 4680]),
+    (ruled, [1024, 2048, 4096]),
+]
+
+def both_sides(count, chance, pattern):
+    """A rule with this pattern on both sides, and twice as many transitions as states."""
+    states = [f"q{i}" for i in range(count)]
+    transitions = ["a -> q0"]
+    for _ in range(2 * count):
+        left, right, target = (chance.randrange(count) for _ in range(3))
+        transitions.append(f"f(q{left},q{right}) -> q{target}")
+    head = f"Ops a:0 f:2\nVars x y z\nTRS R\n{pattern} -> {pattern}\n"
+    return head + automaton("A", states, transitions, ["q0"], chance)
+
+
+def flat(count, chance):
+    return both_sides(count, chance, "f(x,y)")
+
+
+def deep(count, chance):
+    return both_sides(count, chance, "f(f(x,y),z)")
+
+
+def pairs(count, chance):
+    """Each of so many states leads to c, and each of 32 others to d: so each pair of them runs to t under f."""
+    firsts, seconds = [f"p{i}" for i in range(count)], [f"q{i}" for i in range(32)]
+    transitions = ["a -> p0", "f(c,d) -> t"] + [f"{state} -> c" for state in firsts] + [f"{state} -> d" for state in seconds]
+    head = "Ops a:0 f:2\nVars x y\nTRS R\nf(x,y) -> y\n"
+    return head + automaton("A", firsts + seconds + ["c", "d", "t"], transitions, ["p0"], chance)
+def rounds(count, chance):
+    """Chains of rules between constants. A file of 20 rounds has room for 18 of them before the round that finds nothing."""
+    length = 19
+    names = [f"c{i}_{j}" for i in range(count) for j in range(length)]
+    rules = [f"c{i}_{j} -> c{i}_{j + 1}" for i in range(count) for j in range(length - 1)]
+    states = [f"q{i}" for i in range(count)]
+    transitions = [f"c{i}_0 -> q{i}" for i in range(count)]
+    head = "Ops " + " ".join(f"{name}:0" for name in names) + "\nTRS R\n" + "\n".join(rules) + "\n"
+    return head + automaton("A", states, transitions, ["q0"], chance)
+
+
+def forking(levels, chance):
+    symbols = " ".join(f"c{i}:1" for i in range(levels + 1))
+    rules = "\n".join(f"c{i}(x) -> p(c{i + 1}(l(x)),c{i + 1}(r(x)))" for i in range(levels))
+    head = f"Ops a:0 l:1 r:1 p:2 {symbols}\nVars x\nTRS R\n{rules}\n"
+    return head + automaton("A", ["q0", "q1"], ["a -> q0", "c0(q0) -> q1"], ["q1"], chance)
+
+
+def merging(symbols, equations, states, transitions, chance):
+    """An automaton with one open pair, which needs no fresh state; after it the equations merge."""
+    head = f"Ops u:0 v:0 a:0 b:0 {symbols}\nVars x y\nTRS R\nu -> v\nEquations E\nRules\n{equations}\n"
+    return head + automaton("A", states, ["u -> q0", "v -> q1"] + transitions, ["q0"], chance)
+
+
+def folding(count, chance):
+    states = [f"q{i}" for i in range(count)]
+    transitions = []
+    for i in range(count // 3 * 2):
+        transitions.append(f"s(q{chance.randrange(count)}) -> q{chance.randrange(count)}")
+        left, right = chance.randrange(count), chance.randrange(count)
+        transitions.append(f"f(q{left},q{right}) -> q{chance.randrange(count)}")
+    return merging("s:1 f:2", "s(s(x)) = x f(x,y) = f(y,x)", states, transitions, chance)
+
+
+def two_chains(count, symbols, chance):
+    """Two chains of so many states, whose symbols come in turn; states numbered at random."""
+    states = shuffled([f"q{i}" for i in range(2 * count)], chance)
+    one, other = states[:count], states[count:]
+    transitions = [f"a -> {one[0]}", f"b -> {other[0]}"]
+    for chain in (one, other):
+        for i in range(count - 1):
+            transitions.append(f"{symbols[i % len(symbols)]}({chain[i]}) -> {chain[i + 1]}")
+    return sorted(states), transitions
+
+
+def cascade(count, chance):
+    states, transitions = two_chains(count, "s", chance)
+    return merging("s:1", "a = b s(x) = s(x)", states, transitions, chance)
+
+
+def nested(count, chance):
+    states, transitions = two_chains(count, "ts", chance)
+    return merging("s:1 t:1", "a = b s(t(x)) = s(t(x))", states, transitions, chance)
+
+
+def repeated(count, chance):
+    states = [f"q{i}" for i in range(2 * count)]
+    way = shuffled(states, chance)
+    transitions = [f"a -> {way[0]}", f"b -> {way[1]}"]
+    for i in range(count - 1):
+        transitions.append(f"g({way[2 * i]},{way[2 * i + 1]}) -> {way[2 * i + 2]}")
+        transitions.append(f"k({way[2 * i]}) -> {way[2 * i + 3]}")
+    return merging("g:2 k:1", "a = b g(x,x) = k(x)", states, transitions, chance)
+
+
+def all_one(count, chance):
+    return merging("", "x = y", [f"q{i}" for i in range(count)], [], chance)
+
+
 FAMILIES = [
     (reading, [4000, 8000, 16000]),
     (faulty, [4000, 8000, 16000]),
     (closure, [1000, 2000, 4000]),
     (swapping, [500, 1000, 2000]),
-    (missing, [4000, 8000, 16000]),
+    (missing, [4096, 8192, 16384]),
+    (unserved, [4, 8, 16]),
+    (wide, [750, 1500, 3000]),
+    (chain, [4096, 8192, 16384]),
+    (rungs, [4096, 8192, 16384]),
+    (dense, [500, 1000, 2000]),
+    (flat, [500, 1000, 2000]),
+    (deep, [500, 1000, 2000]),
+    (pairs, [750, 1500, 3000]),
+    (rounds, [50, 100, 200]),
+    (forking, [7, 8, 9]),
+    (folding, [300, 600, 1200]),
+    (cascade, [500, 1000, 2000]),
+    (nested, [500, 1000, 2000]),
+    (repeated, [500, 1000, 2000]),
+    (all_one, [1250, 2500, 5000]),
 ]
 
 
-def one_run(program, folder):
-    """The processor seconds of one run on the file F of the folder, and the answer."""
-    with subprocess.Popen([program, "complete", "F"], cwd=folder, stdout=subprocess.PIPE) as run:
-        answer = run.stdout.read().decode().strip()
+def one_run(program, folder, words):
+    """The processor seconds of one run on the file F of the folder, the most memory in MB, and the answer in one line."""
+    with subprocess.Popen([program, "complete", "F", *words], cwd=folder, stdout=subprocess.PIPE) as run:
+        answer = " | ".join(run.stdout.read().decode().split("\n")[:5]).strip(" |")
         _, status, used = os.wait4(run.pid, 0)
         run.returncode = os.WEXITSTATUS(status)
-    return used.ru_utime + used.ru_stime, answer
+    return used.ru_utime + used.ru_stime, used.ru_maxrss / 1024, answer
 
 
-def seconds(programs, text):
-    """For each of the programs the shortest time of some runs, and its answer. The programs are run in turn."""
+def seconds(programs, text, words):
+    """For each of the programs the shortest time of some runs, the most memory, and its answer. They are run in turn."""
     best, answers = [float("inf")] * len(programs), [""] * len(programs)
+    memory = [0.0] * len(programs)
     with tempfile.TemporaryDirectory() as folder:
         with open(os.path.join(folder, "F"), "w", encoding="ascii") as file:
             file.write(text)
@@ -126,37 +351,42 @@ def seconds(programs, text):
             if count >= RUNS and time.perf_counter() - began > ENOUGH * len(programs):
                 break
             for at, program in enumerate(programs):
-                took, answers[at] = one_run(program, folder)
-                best[at] = min(best[at], took)
-    return best, answers
+                took, used, answers[at] = one_run(program, folder, words)
+                best[at], memory[at] = min(best[at], took), max(memory[at], used)
+    return best, memory, answers
 
 
 def texts():
-    """The family, the number of states and the text of each specification that isn't too long."""
+    """The family, what it counts, the text, the options, and how many things the time is divided by, of each specification
+    that isn't too long."""
     for family, sizes in FAMILIES:
         for count in sizes:
             text = family(count, random.Random(count))
             if len(text) > 1048576:
                 print(f"{family.__name__:8} {count:7} {len(text):8}  too long, left out")
             else:
-                yield family.__name__, count, text
+                yield family.__name__, count, text, [], len(text)
+    for family, sizes in SEARCHES:
+        for count in sizes:
+            text, words = family(count)
+            yield family.__name__, count, text, words, count
 
 
 def growth(program):
-    print(f"{'family':8} {'states':>7} {'bytes':>8} {'seconds':>8} {'ns/byte':>8} {'ratio':>6}  answer")
+    print(f"{'family':8} {'count':>7} {'bytes':>8} {'seconds':>8} {'MB':>7} {'ns each':>8} {'ratio':>6}  answer")
     before = {}
-    for family, count, text in texts():
-        [took], [answer] = seconds([program], text)
-        each = took / len(text) * 1e9
+    for family, count, text, words, things in texts():
+        [took], [memory], [answer] = seconds([program], text, words)
+        each = took / things * 1e9
         ratio = f"{each / before[family]:.2f}" if family in before else ""
-        print(f"{family:8} {count:7} {len(text):8} {took:8.3f} {each:8.1f} {ratio:>6}  {answer}")
+        print(f"{family:8} {count:7} {len(text):8} {took:8.3f} {memory:7.1f} {each:8.1f} {ratio:>6}  {answer}")
         before[family] = each
 
 
 def compare(old, new):
-    print(f"{'family':8} {'states':>7} {'bytes':>8} {'old s':>8} {'new s':>8} {'new/old':>7}  answer")
-    for family, count, text in texts():
-        times, answers = seconds([old, new], text)
+    print(f"{'family':8} {'count':>7} {'bytes':>8} {'old s':>8} {'new s':>8} {'new/old':>7}  answer")
+    for family, count, text, words, _ in texts():
+        times, _, answers = seconds([old, new], text, words)
         answer = answers[1] if answers[0] == answers[1] else f"DIFFERENT: {answers[0]}; {answers[1]}"
         print(f"{family:8} {count:7} {len(text):8} {times[0]:8.3f} {times[1]:8.3f} {times[1] / times[0]:7.2f}  {answer}")
 

@@ -1,6 +1,8 @@
 //! Terms, their texts, steps and derivations, on examples worked out by hand.
 use crate::texts::system_of;
-use ranked_terms::{Pattern, Position, Seq, Signature, Term, laws, term_from};
+use ranked_terms::{
+    Binding, Pattern, Position, Seq, Signature, Term, instance, laws, match_term, term_from,
+};
 use std::alloc::{AllocError, Global};
 use std::test::Fail;
 use trs_rules::{DStep, Derivation, Rule, Successor, first_bad_step, replays, successors};
@@ -301,5 +303,68 @@ fn a_rule_of_1023_nested_symbols_matches_1024(rt: HostRuntime) -> Result<(), Fai
         assert!(rt; step.at.as_slice().is_empty());
         assert!(rt; step.term == term(rt.alloc(), &signature, text.as_str())?);
     }
+    Ok(())
+}
+
+/// The symbol applied to the arguments, where the signature gives it so many.
+fn applied(signature: &Signature, sym: u32, args: Seq<Term>) -> Option<Term> {
+    let arity = signature.arity(sym)?;
+    if arity as usize != args.len() {
+        return None;
+    }
+    Some(Term::build(sym, args, signature))
+}
+
+/// The symbol so many times before a constant.
+fn built(
+    alloc: Global,
+    signature: &Signature,
+    sym: u32,
+    constant: u32,
+    height: u32,
+) -> Result<Option<Term>, AllocError> {
+    let Some(mut found) = applied(signature, constant, Seq::new(alloc)) else {
+        return Ok(None);
+    };
+    for _ in 0..height {
+        let mut args = Seq::new(alloc);
+        args.push(found)?;
+        let Some(next) = applied(signature, sym, args) else {
+            return Ok(None);
+        };
+        found = next;
+    }
+    Ok(Some(found))
+}
+
+/// The instance of the rule's left side by what it is matched with in the term, where it matches.
+fn matched(alloc: Global, rule: &Rule, term: &Term) -> Result<Option<Term>, AllocError> {
+    let mut binding = Binding::new();
+    if !match_term(rule.left(), term, &mut binding) {
+        return Ok(None);
+    }
+    let made = instance(alloc, rule.left(), &binding)?;
+    Ok(Some(made))
+}
+
+/// Whether the rule's left side, so many symbols before a variable, matches the term, and its instance is the term again.
+fn is_made_again(alloc: Global, sym: u32, height: u32, term: &Term) -> Result<bool, Fail> {
+    let rule = nested_rule(alloc, sym, height)?;
+    let made = matched(alloc, &rule, term)?;
+    Ok(made.is_some_and(|made| made == *term))
+}
+
+#[test]
+fn a_built_term_of_1024_symbols_is_matched_and_made_again(rt: HostRuntime) -> Result<(), Fail> {
+    let (signature, _) = system_of(rt.alloc(), RENAMING)?;
+    let sym = signature.find("s").ok_or("no symbol")?;
+    let constant = signature.find("a").ok_or("no symbol")?;
+    let built = built(rt.alloc(), &signature, sym, constant, 1023)?;
+    let deep = built.ok_or("another arity")?;
+    let text = tower(rt.alloc(), 1023)?;
+    assert!(rt; deep == term(rt.alloc(), &signature, text.as_str())?);
+    assert!(rt; is_made_again(rt.alloc(), sym, 1023, &deep)?);
+    // The term has no further symbol below its 1,023.
+    assert!(rt; !is_made_again(rt.alloc(), sym, 1024, &deep)?);
     Ok(())
 }

@@ -1,67 +1,113 @@
 -- What the verdicts of `run` rest on.
-use Rattle.std.proofs.Common.{◌≡◌, ℕ, ◌+◌, ◌≤◌, ◌<◌, List, [], ◌∷◌, ◌++◌, Option, Some, None, Result, Ok, Err, IfOk, length, append-nil, length-append, arith, sym, ap, ◌∙◌, subst, inl, refl, string_bytes}
-use Rattle.std.specs.List.{All, AllZip, range_with_len}
+use Rattle.std.proofs.Common.{◌≡◌, ℕ, ◌+◌, ◌≤◌, ◌<◌, List, ◌++◌, Option, Some, None, Result, Ok, Err, IfOk, length, take, append-nil, length-append, arith, sym, ap, ◌∙◌, subst, inl, refl, string_bytes}
+use Rattle.std.specs.List.{All}
 use Rattle.std.specs.Prelude.{String}
 use Rattle.std.specs.Global.{Global}
-use Rattle.std.proofs.lemmas.List.Elements.{All-nil, All-cons}
 use Rattle.std.specs.declared.alloc.AllocError.{AllocError}
 use Rattle.std.specs.Io.KnownBytes.{Consumes, IsAtEnd}
 use Rattle.tim_io.specs.declared.whole.ReadError.{ReadError}
 use Rattle.tim_io.specs.declared.whole.ReadError.TheVariants as error
 use Rattle.tim_io.specs.Whole.{Reads, TookAtMost, TookJust}
-use Rattle.trs_rules.specs.Rules.{RewriteRule, IsRule}
-use Rattle.ta_core.specs.TreeAutomaton.{IsSound}
-use Rattle.ta_core.specs.AcceptanceLaws.{AcceptedIsSafe}
+use Rattle.trs_rules.specs.Rules.{IsRule}
+use Rattle.ranked_terms.specs.declared.term.Term.{Term}
+use Rattle.ta_core.specs.TreeAutomaton.{TreeAutomaton, IsSound}
+use Rattle.ta_core.specs.Acceptance.{IsAccepted}
+use Rattle.ta_core.specs.AcceptanceLaws.{ContainedKeepsAccepted}
 use Rattle.ta_core.specs.ClosureLaws.{ClosedAcceptsReached}
+use Rattle.ta_core.specs.Reachability.{Reachable, Forbidden}
 use Rattle.ta_core.specs.declared.spec.Spec.{Spec}
+use Rattle.ta_core.specs.declared.options.Options.{Options}
+use Rattle.normalise.specs.Normalising.{NeedMoreFor}
+use Rattle.completion.specs.Stages.{EndsAt, Ends, context_of}
+use Rattle.completion.specs.StagesLaws.{AreOneEnd, EndsAreOne}
+use Rattle.completion.specs.declared.end.StageEnd.{StageEnd}
+use Rattle.completion.specs.declared.end.StageEnd.TheVariants as end
 use Rattle.top_call.specs.Words.{file_of}
-use Rattle.spec_text.specs.Source.{RuleDeclaration}
-use Rattle.spec_text.specs.Naming.{Names}
-use Rattle.spec_text.specs.SpecText.{IsRuleFrom, SpecText}
+use Rattle.spec_text.specs.SpecText.{SpecText}
 use Rattle.spec_text.specs.Laws.{OneSpec}
-use Rattle.top_call.specs.Output.{Text, SettlesItself, IsSafe, IsNoSpec, Decides, Judges, OfFile, Says, Answers, limit}
+use Rattle.top_call.specs.Output.{Text, AreDefault, Completes, Settles, Leaves, IsProved, IsNoSpec, Decides, Judges, OfFile, Says, Answers, limit}
 use Rattle.top_call.specs.declared.status.Status.{Status}
 use Rattle.top_call.specs.declared.status.Status.TheVariants.{Unreachable, Undecided, BadWords, BadSpec, TooLong, ReadFault, WriteFault, Memory}
 
--- the rules of a text are rules
-rules_are : (names : Names) (ds : List RuleDeclaration) (rules : List RewriteRule) → AllZip (IsRuleFrom names) ds rules → All IsRule rules
-rules_are names [] [] zip = All-nil IsRule
-rules_are names (d ∷ ds) (rule ∷ rules) zip = All-cons IsRule rule rules zip.0.is_rule (rules_are names ds rules zip.1)
-rules_are names [] (rule ∷ rules) zip = absurd zip
-rules_are names (d ∷ ds) [] zip = absurd zip
+-- ---- what completion settles
 
-module _ (reached : ClosedAcceptsReached) (safe : AcceptedIsSafe) where
-  -- where the initial automaton settles the question, it accepts what is reachable, and no such term is forbidden
-  pub settled_is_safe : (bytes : List ℕ) (spec : Spec) → SpecText bytes spec → IsSound spec.initial → SettlesItself spec → IsSafe bytes
-  settled_is_safe bytes spec text sound settles =
-      let rules = rules_are _ _ spec.rules text.spells.rules in
-      record {
-        spec = spec;
-        text = text;
-        settles = settles;
-        accepted = λ t reachable. reached spec.initial spec.rules sound rules settles.closed reachable.start t reachable.begins.accepted reachable.leads;
-        safe = safe spec spec.initial (range_with_len 0 spec.initial.next) sound rules settles;
-      }
+-- a closed stage is accepted, accepts what is reached, and shows that nothing forbidden is
+pub proved : ContainedKeepsAccepted → ClosedAcceptsReached → (spec : Spec) (options : Options) (A : TreeAutomaton) (h : List ℕ) (e : StageEnd) (number : ℕ) → AreDefault options → Ends spec options A h e →
+    e ≡ end.Closed number → IsSound A → All IsRule spec.rules → IsAccepted spec A (take spec.initial.next h) → ((t : Term) → Reachable spec t → Forbidden spec t → ⊥) → IsProved spec
+proved keeps reached spec options A h e number default ends is sound rules accepted safe = record {
+  number = number;
+  completes = record { options = options; are_default = default; automaton = A; places = h; ends = subst (Ends spec options A h) is ends };
+  accepted = accepted;
+  accepts = λ t r. reached A spec.rules sound rules accepted.closed r.start t (keeps spec.initial A (take spec.initial.next h) accepted.contained r.start r.begins.accepted) r.leads;
+  safe = safe;
+}
 
-  -- the verdict on a specification is what its text has
-  judged_by : (bytes text : List ℕ) (spec : Spec) → SpecText bytes spec → IsSound spec.initial → (status : Status) → Decides spec text status → Judges bytes text status
-  judged_by bytes text spec spelled sound Unreachable (settles, told) = (settled_is_safe bytes spec spelled sound settles, told)
-  judged_by bytes text spec spelled sound Undecided (unsettled, told) = (record { spec = spec; text = spelled; unsettled = unsettled }, told)
-  judged_by bytes text spec spelled sound BadWords none = absurd none
-  judged_by bytes text spec spelled sound BadSpec none = absurd none
-  judged_by bytes text spec spelled sound TooLong none = absurd none
-  judged_by bytes text spec spelled sound ReadFault none = absurd none
-  judged_by bytes text spec spelled sound WriteFault none = absurd none
-  judged_by bytes text spec spelled sound Memory none = absurd none
+-- the default options are such
+pub are_default : (o : Options) → (o.rounds ≡ 20) × (o.steps ≡ 5) × (o.height ≡ 4) × (o.terms ≡ 5000) × (o.pairs ≡ 100000) × (o.states ≡ 4096) → AreDefault o
+are_default o h = record { rounds = h.0; steps = h.1; height = h.2; terms = h.3; pairs = h.4; states = h.5 }
 
-  -- the same of an answer
-  pub judged_of : (bytes : List ℕ) (spec : Spec) → SpecText bytes spec → IsSound spec.initial → (answer : Result (Status × String Global) AllocError) → IfOk answer (λ a. Decides spec (string_bytes a.1) a.0) → IfOk answer (λ a. Judges bytes (string_bytes a.1) a.0)
-  judged_of bytes spec spelled sound (Ok a) decides = judged_by bytes (string_bytes a.1) spec spelled sound a.0 decides
-  judged_of bytes spec spelled sound (Err e) decides = tt
+-- something else ends completion
+pub left : (spec : Spec) (options : Options) (A : TreeAutomaton) (h : List ℕ) (e : StageEnd) → AreDefault options → Ends spec options A h e → ((number : ℕ) → e ≡ end.Closed number → ⊥) → Leaves spec
+left spec options A h e default ends other =
+    record { cause = e; completes = record { options = options; are_default = default; automaton = A; places = h; ends = ends }; not_closed = other }
 
--- two specifications of one text settle the question together
-same_settled : OneSpec → (bytes : List ℕ) (a b : Spec) → SpecText bytes a → SpecText bytes b → SettlesItself a → SettlesItself b
-same_settled one bytes a b text other settles = subst SettlesItself (one bytes a b text other) settles
+-- ---- only some options matter to completion
+
+module _ (spec : Spec) (o p : Options) (rounds : o.rounds ≡ p.rounds) (pairs : o.pairs ≡ p.pairs) (states : o.states ≡ p.states) where
+  ends_there : {i : ℕ} {A : TreeAutomaton} {h : List ℕ} {e : StageEnd} → EndsAt spec o i A h e → EndsAt spec p i A h e
+  ends_there (EndsAt.meets m) = EndsAt.meets m
+  ends_there (EndsAt.closed m c) = EndsAt.closed m c
+  ends_there (EndsAt.rounds m c e) = EndsAt.rounds m c (e ∙ rounds)
+  ends_there {i = i} (EndsAt.pairs {pairs = xs} m left are many) = EndsAt.pairs m (λ e. left (e ∙ sym rounds)) are (subst (λ n. n < length xs) pairs many)
+  ends_there {A = A} {h = h} (EndsAt.states {pairs = xs} m left are few needs) =
+      EndsAt.states m (λ e. left (e ∙ sym rounds)) are (subst (λ n. length xs ≤ n) pairs few) (subst (λ n. NeedMoreFor (context_of spec h) n A xs) states needs)
+
+pub ends_by_limits : (spec : Spec) (o p : Options) → o.rounds ≡ p.rounds → o.pairs ≡ p.pairs → o.states ≡ p.states → (A : TreeAutomaton) (h : List ℕ) (e : StageEnd) → Ends spec o A h e → Ends spec p A h e
+ends_by_limits spec o p rounds pairs states A h e ends = record {
+  number = ends.number;
+  within = subst (λ n. ends.number ≤ n) rounds ends.within;
+  stage = ends.stage;
+  ends = ends_there spec o p rounds pairs states ends.ends;
+  least = λ j B g less stage d at. ends.least j B g less stage d (ends_there spec p o (sym rounds) (sym pairs) (sym states) at);
+}
+
+-- ---- an end is one
+
+still_closed : (number : ℕ) (d e : StageEnd) → AreOneEnd d e → d ≡ end.Closed number → e ≡ end.Closed number
+still_closed number d e (AreOneEnd.meets same) is = absurd (cc)
+still_closed number d e AreOneEnd.same is = is
+
+one_cause : EndsAreOne → (spec : Spec) (d e : StageEnd) → Completes spec d → Completes spec e → AreOneEnd d e
+one_cause one spec d e a b =
+    let s = a.are_default in
+    let t = b.are_default in
+    let moved = ends_by_limits spec b.options a.options (t.rounds ∙ sym s.rounds) (t.pairs ∙ sym s.pairs) (t.states ∙ sym s.states) b.automaton b.places e b.ends in
+    (one spec a.options a.automaton b.automaton a.places b.places d e a.ends moved).2
+
+-- nothing is settled and left
+never_both : EndsAreOne → (spec : Spec) → Settles spec → Leaves spec → ⊥
+never_both one spec s l = l.not_closed s.0 (still_closed s.0 (end.Closed s.0) l.cause (one_cause one spec (end.Closed s.0) l.cause s.1 l.completes) refl)
+
+settled : (spec : Spec) → IsProved spec → Settles spec
+settled spec p = (p.number, p.completes)
+
+-- ---- the verdict on a text
+
+-- the verdict on a specification is what its text has
+judged_by : (bytes text : List ℕ) (spec : Spec) → SpecText bytes spec → (status : Status) → Decides spec text status → Judges bytes text status
+judged_by bytes text spec spelled Unreachable (proved, told) = (record { spec = spec; text = spelled; proved = proved }, told)
+judged_by bytes text spec spelled Undecided (leaves, told) = (record { spec = spec; text = spelled; leaves = leaves }, told)
+judged_by bytes text spec spelled BadWords none = absurd none
+judged_by bytes text spec spelled BadSpec none = absurd none
+judged_by bytes text spec spelled TooLong none = absurd none
+judged_by bytes text spec spelled ReadFault none = absurd none
+judged_by bytes text spec spelled WriteFault none = absurd none
+judged_by bytes text spec spelled Memory none = absurd none
+
+-- the same of an answer
+pub judged_of : (bytes : List ℕ) (spec : Spec) → SpecText bytes spec → (answer : Result (Status × String Global) AllocError) → IfOk answer (λ a. Decides spec (string_bytes a.1) a.0) → IfOk answer (λ a. Judges bytes (string_bytes a.1) a.0)
+judged_of bytes spec spelled (Ok a) decides = judged_by bytes (string_bytes a.1) spec spelled a.0 decides
+judged_of bytes spec spelled (Err e) decides = tt
 
 -- what was taken of a file up to its end is what was told of it
 whole : (given left : Option (List ℕ)) (bytes told : List ℕ) → given ≡ Some told → Consumes given left bytes → IsAtEnd left → bytes ≡ told
@@ -80,7 +126,7 @@ as_many count (Some all) (Some rest) told is took =
     let sum : length told ≡ length took.0 + length rest = ap length (sym same ∙ took.1) ∙ length-append took.0 rest in
     omega (arith, sum, took.2)
 
-module _ (one : OneSpec) (words : List Text) (given : Text → Option (List ℕ)) (left : Option (List ℕ)) (name : Text) (is : file_of words ≡ Some name) where
+module _ (one : OneSpec) (one_end : EndsAreOne) (words : List Text) (given : Text → Option (List ℕ)) (left : Option (List ℕ)) (name : Text) (is : file_of words ≡ Some name) where
   -- what was told of the file of the words was told of this name
   told : (other : Text) (bytes : List ℕ) → file_of words ≡ Some other → given other ≡ Some bytes → given name ≡ Some bytes
   told other bytes named says =
@@ -103,8 +149,8 @@ module _ (one : OneSpec) (words : List Text) (given : Text → Option (List ℕ)
   -- an answer that says something of the bytes
   judged : (text : Text) (status : Status) → OfFile (given name) left (λ bytes. Judges bytes text status)
       → ((bytes : List ℕ) → Judges bytes text status → IsNoSpec bytes → status ≡ BadSpec)
-      → ((bytes : List ℕ) (spec : Spec) → Judges bytes text status → SpecText bytes spec → SettlesItself spec → status ≡ Unreachable)
-      → ((bytes : List ℕ) (spec : Spec) → Judges bytes text status → SpecText bytes spec → (SettlesItself spec → ⊥) → status ≡ Undecided)
+      → ((bytes : List ℕ) (spec : Spec) → Judges bytes text status → SpecText bytes spec → Settles spec → status ≡ Unreachable)
+      → ((bytes : List ℕ) (spec : Spec) → Judges bytes text status → SpecText bytes spec → Leaves spec → status ≡ Undecided)
       → Answers words given status
   judged text status file bad safe unsettled = record {
     bad_words = λ none. absurd (named none);
@@ -118,10 +164,10 @@ module _ (one : OneSpec) (words : List Text) (given : Text → Option (List ℕ)
   answers rose text Unreachable quiet says = judged text Unreachable says
       (λ bytes h none. absurd (none h.0.spec h.0.text))
       (λ bytes spec h spelled settles. refl)
-      (λ bytes spec h spelled open_question. absurd (open_question (same_settled one bytes h.0.spec spec h.0.text spelled h.0.settles)))
+      (λ bytes spec h spelled open_question. absurd (never_both one_end spec (subst Settles (one bytes h.0.spec spec h.0.text spelled) (settled h.0.spec h.0.proved)) open_question))
   answers rose text Undecided quiet says = judged text Undecided says
       (λ bytes h none. absurd (none h.0.spec h.0.text))
-      (λ bytes spec h spelled settles. absurd (h.0.unsettled (same_settled one bytes spec h.0.spec spelled h.0.text settles)))
+      (λ bytes spec h spelled settles. absurd (never_both one_end spec settles (subst Leaves (one bytes h.0.spec spec h.0.text spelled) h.0.leaves)))
       (λ bytes spec h spelled open_question. refl)
   answers rose text BadSpec quiet says = judged text BadSpec says
       (λ bytes h none. refl)

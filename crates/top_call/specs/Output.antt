@@ -1,12 +1,16 @@
 -- What the program answers and writes, by its words and by what its file has. This project's own.
-use Rattle.std.specs.Prelude.{◌≡◌, ◌⊎◌, ℕ, ◌+◌, ◌≤◌, ◌<◌, List, [], ◌∷◌, ◌++◌, Option, Some, None, length, codes}
-use Rattle.std.specs.List.{range_with_len}
+use Rattle.std.specs.Prelude.{◌≡◌, ◌⊎◌, ℕ, ◌+◌, ◌≤◌, ◌<◌, List, [], ◌∷◌, ◌++◌, Option, Some, None, length, take, codes}
 use Rattle.std.specs.Io.KnownBytes.{Appends, Keeps, Consumes, IsAtEnd}
 use Rattle.ranked_terms.specs.declared.term.Term.{Term}
+use Rattle.ta_core.specs.TreeAutomaton.{TreeAutomaton}
 use Rattle.ta_core.specs.declared.spec.Spec.{Spec}
+use Rattle.ta_core.specs.declared.options.Options.{Options}
 use Rattle.ta_core.specs.Languages.{Accepts}
 use Rattle.ta_core.specs.Acceptance.{IsAccepted}
 use Rattle.ta_core.specs.Reachability.{Reachable, Forbidden}
+use Rattle.completion.specs.Stages.{Ends}
+use Rattle.completion.specs.declared.end.StageEnd.{StageEnd}
+use Rattle.completion.specs.declared.end.StageEnd.TheVariants as end
 use Rattle.tim_io.specs.Whole.{TookAtMost, TookJust, AppendsPart}
 use Rattle.spec_text.specs.declared.fault.SpecFault.{SpecFault}
 use Rattle.spec_text.specs.SpecText.{SpecText}
@@ -25,24 +29,53 @@ limit = 1048576
 
 -- ---- what is said of a file
 
--- The initial automaton settles the question as it stands: with the map that moves no state, it contains the initial automaton, is closed under the
--- rules and misses the forbidden language.
-abbrev pub SettlesItself : Spec → Type 0
-SettlesItself spec = IsAccepted spec spec.initial (range_with_len 0 spec.initial.next)
+-- the default options
+pub record AreDefault (o : Options) : Type 0 where
+  pub rounds : o.rounds ≡ 20
+  pub steps : o.steps ≡ 5
+  pub height : o.height ≡ 4
+  pub terms : o.terms ≡ 5000
+  pub pairs : o.pairs ≡ 100000
+  pub states : o.states ≡ 4096
 
--- the bytes are a specification whose initial automaton settles the question; so no term that is reachable, in whatever number of steps, is forbidden
+-- completion with the default options ends at the least stage at which something ends it, and this is what ends it
+pub record Completes (spec : Spec) (e : StageEnd) : Type 0 where
+  pub options : Options
+  pub are_default : AreDefault options
+  pub automaton : TreeAutomaton
+  pub places : List ℕ
+  pub ends : Ends spec options automaton places e
+
+-- a closed stage ends it
+abbrev pub Settles : Spec → Type 0
+Settles spec = (number : ℕ) × Completes spec (end.Closed number)
+
+-- something else ends it: a common term, no round left, too many open pairs or too many states
+pub record Leaves (spec : Spec) : Type 0 where
+  pub cause : StageEnd
+  pub completes : Completes spec cause
+  pub not_closed : (number : ℕ) → cause ≡ end.Closed number → ⊥
+
+-- A closed stage ends completion: with the map from the states of the initial automaton, the stage contains the initial automaton, is closed under the rules
+-- and misses the forbidden language. So it accepts each term that is reachable, in whatever number of steps, and no such term is forbidden.
+pub record IsProved (spec : Spec) : Type 0 where
+  pub number : ℕ
+  pub completes : Completes spec (end.Closed number)
+  pub accepted : IsAccepted spec completes.automaton (take spec.initial.next completes.places)
+  pub accepts : (t : Term) → Reachable spec t → Accepts completes.automaton t
+  pub safe : (t : Term) → Reachable spec t → Forbidden spec t → ⊥
+
+-- the bytes are a specification of which a stage is closed, which shows that it is safe
 pub record IsSafe (bytes : List ℕ) : Type 0 where
   pub spec : Spec
   pub text : SpecText bytes spec
-  pub settles : SettlesItself spec
-  pub accepted : (t : Term) → Reachable spec t → Accepts spec.initial t
-  pub safe : (t : Term) → Reachable spec t → Forbidden spec t → ⊥
+  pub proved : IsProved spec
 
--- the bytes are a specification whose initial automaton settles nothing
+-- the bytes are a specification of which something else ends completion
 pub record IsUnsettled (bytes : List ℕ) : Type 0 where
   pub spec : Spec
   pub text : SpecText bytes spec
-  pub unsettled : SettlesItself spec → ⊥
+  pub leaves : Leaves spec
 
 -- the bytes are no specification
 abbrev pub IsNoSpec : List ℕ → Type 0
@@ -53,8 +86,8 @@ line text = text ++ 10 ∷ []
 
 -- the text and the status of a specification
 abbrev pub Decides : Spec → Text → Status → Type 0
-Decides spec text Unreachable = SettlesItself spec × (text ≡ line (codes "Verdict unreachable"))
-Decides spec text Undecided = (SettlesItself spec → ⊥) × (text ≡ line (codes "Verdict undecided"))
+Decides spec text Unreachable = IsProved spec × (text ≡ line (codes "Verdict unreachable"))
+Decides spec text Undecided = Leaves spec × (text ≡ line (codes "Verdict undecided"))
 Decides spec text _ = ⊥
 
 -- the bytes are no specification, and this is the line for their first fault
@@ -116,5 +149,5 @@ pub record Answers (words : List Text) (given : Text → Option (List ℕ)) (ans
   pub bad_words : file_of words ≡ None → answer ≡ BadWords
   pub too_long : (name : Text) (bytes : List ℕ) → file_of words ≡ Some name → given name ≡ Some bytes → limit < length bytes → IsOrMemory TooLong answer
   pub bad_spec : (name : Text) (bytes : List ℕ) → file_of words ≡ Some name → given name ≡ Some bytes → length bytes ≤ limit → IsNoSpec bytes → IsOrMemory BadSpec answer
-  pub unreachable : (name : Text) (bytes : List ℕ) (spec : Spec) → file_of words ≡ Some name → given name ≡ Some bytes → length bytes ≤ limit → SpecText bytes spec → SettlesItself spec → IsOrMemory Unreachable answer
-  pub undecided : (name : Text) (bytes : List ℕ) (spec : Spec) → file_of words ≡ Some name → given name ≡ Some bytes → length bytes ≤ limit → SpecText bytes spec → (SettlesItself spec → ⊥) → IsOrMemory Undecided answer
+  pub unreachable : (name : Text) (bytes : List ℕ) (spec : Spec) → file_of words ≡ Some name → given name ≡ Some bytes → length bytes ≤ limit → SpecText bytes spec → Settles spec → IsOrMemory Unreachable answer
+  pub undecided : (name : Text) (bytes : List ℕ) (spec : Spec) → file_of words ≡ Some name → given name ≡ Some bytes → length bytes ≤ limit → SpecText bytes spec → Leaves spec → IsOrMemory Undecided answer

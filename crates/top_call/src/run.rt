@@ -1,22 +1,23 @@
 //! The top call.
-ghost use Rattle.std.specs.Prelude.{◌≡◌, ◌≢◌, ◌↔◌, ℕ, ◌+◌, List, ◌≤◌, ◌∷◌, ◌++◌, Some};
-ghost use Rattle.std.specs.Prelude.{IsTrue, IfOk, OnErr, codes, length, map, string_bytes};
+ghost use Rattle.std.specs.Prelude.{◌≡◌, ◌≢◌, ℕ, ◌+◌, List, ◌<◌, ◌≤◌, ◌^◌, ◌∷◌, ◌++◌, Some};
+ghost use Rattle.std.specs.Prelude.{IsTrue, not, IfOk, OnErr, codes, length, map, string_bytes};
 ghost use Rattle.tim_io.specs.Causes.{Rose};
 ghost use Rattle.tim_io.specs.Shelves.{OthersStay};
 ghost use Rattle.tim_io.specs.Whole.{TookAtMost};
-ghost use Rattle.ta_core.specs.TreeAutomaton.{IsSound};
 ghost use Rattle.top_call.specs.Words.{file_of};
-ghost use Rattle.top_call.specs.Output.{SettlesItself, limit, line, Decides, Judges, Says, Ran, Answers};
+ghost use Rattle.top_call.specs.Output.{IsProved, Leaves, limit, line, Decides, Judges, Says, Ran, Answers};
 
 use crate::fault_line::fault_line;
 use crate::status::Status;
 use crate::words::file_word;
-use closure_check::{Answer, Room, check};
+use completion::laws::ends_are_one;
+use completion::{StageEnd, stages};
 use std::alloc::{AllocError, Global};
-use ta_core::laws::{accepted_automata_are_safe, closed_automata_accept_what_is_reached};
-use ta_core::{Map, Spec};
+use ta_core::laws::{closed_automata_accept_what_is_reached, contained_automata_keep_runs};
+use ta_core::{Options, Spec};
 use tim_io::{ReadError, Shelf, Sink, read_all, write_all};
 use timbuk_reader::{SpecError, no_text_has_two_specs, read_spec};
+use trs_rules::each_is_rule;
 
 /// The largest number of bytes of a specification.
 const MAX_SPEC: usize = 1048576;
@@ -25,28 +26,32 @@ const MAX_SPEC: usize = 1048576;
 const USAGE: &str =
     "usage: timbuk complete FILE [OPTIONS] | check SPEC CERT | ta OP FILE [--limit N] | browse SPEC SCRIPT | sample N\n";
 
-/// Whether the initial automaton settles the question as it stands, with the map that moves no state: it is closed under the
-/// rules and has no term in common with the forbidden automaton. The only error is running out of memory.
-fn settles_itself(alloc: Global, spec: &Spec) -> Result<bool, AllocError>
-    ensures { IfOk result (λ yes. IsTrue yes ↔ SettlesItself spec.now) }
+/// Whether completion with the default options ends at a closed stage; then the stage shows that no term that is reachable is
+/// forbidden. The only error is running out of memory.
+fn is_proved(alloc: Global, spec: &Spec) -> Result<bool, AllocError>
+    requires { length spec.now.rules < 2 ^ 32 }
+    ensures yes { IfOk result (λ yes. IsTrue yes → IsProved spec.now) }
+    ensures no { IfOk result (λ yes. IsTrue (not yes) → Leaves spec.now) }
 {
-    let unmoved = Map::from_slice(alloc, spec.initial.states())?;
-    let mut room = Room::new(alloc, spec, &spec.initial)?;
-    match check(&mut room, spec, &spec.initial, &unmoved) {
-        Answer::Yes => Ok(true),
+    // For the proof: a contained language is accepted, a closed automaton accepts what is reached, and automata are sound.
+    contained_automata_keep_runs();
+    closed_automata_accept_what_is_reached();
+    each_is_rule(spec.rules.as_slice());
+    let (core, end) = stages(alloc, spec, Options::default())?;
+    let _ = core.automaton().states();
+    match end {
+        StageEnd::Closed(_number) => Ok(true),
         _ => Ok(false),
     }
 }
 
-/// The verdict on a specification, with its line: `Unreachable` exactly where its initial automaton is closed under its
-/// rules and accepts no forbidden term, and else `Undecided`. The only error is running out of memory.
+/// The verdict on a specification, with its line: `Unreachable` exactly where completion with the default options ends at a
+/// closed stage, and else `Undecided`. The only error is running out of memory.
 fn verdict(alloc: Global, spec: &Spec) -> Result<(Status, String), AllocError>
-    ensures exact { IfOk result (λ a. Decides spec.now (string_bytes a.1) a.0) }
-    ensures sound { IsSound spec.now.initial }
+    requires { length spec.now.rules < 2 ^ 32 }
+    ensures { IfOk result (λ a. Decides spec.now (string_bytes a.1) a.0) }
 {
-    // For the proof: its contract says what holds of every automaton.
-    let _ = spec.initial.states();
-    if settles_itself(alloc, spec)? {
+    if is_proved(alloc, spec)? {
         let line = String::from_str(alloc, "Verdict unreachable\n")?;
         Ok((Status::Unreachable, line))
     } else {
@@ -61,9 +66,6 @@ fn judge(alloc: Global, bytes: &[u8]) -> Result<(Status, String), AllocError>
     requires { length bytes.now ≤ limit }
     ensures { IfOk result (λ a. Judges bytes.now (string_bytes a.1) a.0) }
 {
-    // For the proof: a closed automaton accepts what is reached, and where it is accepted no such term is forbidden.
-    closed_automata_accept_what_is_reached();
-    accepted_automata_are_safe();
     match read_spec(alloc, bytes) {
         Ok(spec) => verdict(alloc, &spec),
         Err(SpecError::Fault(fault)) => Ok((Status::BadSpec, fault_line(alloc, fault)?)),
@@ -108,9 +110,10 @@ fn answer<F: Shelf>(
 /// Does what the words say, over the files of the shelf, and writes what there is to say to the sink. The words are those
 /// after the program's name.
 ///
-/// The words are exactly `complete FILE`. `Unreachable` comes exactly where the file is a specification whose initial
-/// automaton is closed under its rules and accepts no forbidden term, and then no term that is reachable, in whatever
-/// number of steps, is forbidden. `Undecided` comes exactly where the file is any other specification. `BadWords` comes
+/// The words are exactly `complete FILE`. `Unreachable` comes exactly where the file is a specification of which completion
+/// with the default options ends at a closed stage, and then no term that is reachable, in whatever number of steps, is
+/// forbidden. `Undecided` comes exactly where something else ends completion of the file's specification: a common term with
+/// the forbidden automaton, no round left, too many open pairs or too many states. `BadWords` comes
 /// exactly where the arguments are invalid, `TooLong` exactly where the file has more than 1,048,576 bytes, `BadSpec`
 /// exactly where its bytes are no specification, `ReadFault` only where the shelf failed at the file, `WriteFault` only
 /// where the sink failed, and `Memory` where memory ran out once the words were understood.
@@ -138,6 +141,7 @@ pub fn run<F: Shelf, K: Sink>(alloc: Global, words: &[String], shelf: &mut F, ou
 {
     // For the proof: the bytes of a file name one answer.
     no_text_has_two_specs();
+    ends_are_one();
     let Some(name) = file_word(words) else {
         return match write_all(out, USAGE.as_bytes()) {
             Ok(()) => Status::BadWords,

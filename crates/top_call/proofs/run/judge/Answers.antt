@@ -1,11 +1,12 @@
-use Rattle.std.proofs.Common.{Err, ap, ◌∙◌}
+use Rattle.std.proofs.Common.{Err, ap, ◌∙◌, arith}
 use Rattle.top_call.proofs.Verdicts.{judged_of}
 use Rattle.top_call.proofs.run.judge.Goals as goal
 
+pub verdict-requires : goal.verdict-requires
+verdict-requires c = let few = c.in-Ok.ensures.found.spells.few_rules in omega (arith, few)
+
 pub returns-in-Ok : goal.returns-in-Ok
-returns-in-Ok c =
-    judged_of c.closed_automata_accept_what_is_reached.ensures.accepts c.accepted_automata_are_safe.ensures
-    c.args.bytes.now c.in-Ok.spec c.in-Ok.ensures.found c.verdict.ensures.sound c.verdict.result c.verdict.ensures.exact
+returns-in-Ok c = judged_of c.args.bytes.now c.in-Ok.spec c.in-Ok.ensures.found c.verdict.result c.verdict.ensures
 
 pub returns-in_ok-fault_line-in-Err-Fault : goal.returns-in_ok-fault_line-in-Err-Fault
 returns-in_ok-fault_line-in-Err-Fault c =

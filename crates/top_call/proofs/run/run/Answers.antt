@@ -10,4 +10,4 @@ returns-in-Err-clause-ran g c = (search rules, (c.as_bytes.result.now, BadWords,
 pub returns-in-Ok-write_all-clause-complete : goal.returns-in-Ok-write_all-clause-complete
 returns-in-Ok-write_all-clause-complete g c = λ quiet calm.
     let file = sym c.file_word.ensures ∙ ap (option_map (λ s. s.now)) c.in-Some.is in
-    answers c.no_text_has_two_specs.ensures _ _ _ _ file _ _ _ (quiet _ file) c.in-Ok-answer.ensures.says
+    answers c.no_text_has_two_specs.ensures c.ends_are_one.ensures _ _ _ _ file _ _ _ (quiet _ file) c.in-Ok-answer.ensures.says
