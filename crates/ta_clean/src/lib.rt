@@ -2,6 +2,8 @@
 //! accept, and the pairs of states of two automata to which one ground term runs (TATA, sections 1.1 and 1.3).
 #![tactic(auto)]
 
+mod buckets;
+mod building;
 mod emptiness;
 mod final_pairs;
 pub mod laws;

@@ -8,7 +8,7 @@ ghost use Rattle.ta_clean.specs.Tables.{IsMarked};
 ghost use Rattle.ta_clean.specs.Products.{HasRoom};
 
 pub(crate) mod grid;
-mod product;
+pub(crate) mod product;
 pub(crate) mod uses;
 
 use grid::Grid;

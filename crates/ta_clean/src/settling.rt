@@ -1,110 +1,185 @@
-//! The least sizes of the terms that run to pairs of states, by passes over both automata until no number falls.
-ghost use Rattle.std.specs.Prelude.{◌≡◌, ◌≤◌, ℕ, IfOk, Contains, Some, slice_get};
-ghost use Rattle.ranked_terms.specs.Limits.{max_size};
+//! The least sizes of the terms that run to pairs of states.
+//!
+//! The pairs are taken by their sizes, smallest first, as in Knuth's generalisation of Dijkstra's algorithm (Information
+//! Processing Letters 6, 1977): a pair that is taken has its least size, so each is taken once. What it leads to is looked at
+//! then, as in the product of the two automata. So two transitions are looked at at most once for each argument.
+ghost use Rattle.std.specs.Prelude.{◌≡◌, ◌≤◌, ◌<◌, ◌∷◌, [], ℕ, IfOk, Contains, Some, length, slice_get, zip};
+ghost use Rattle.std.specs.List.Sorted.{IsStrictlySortedBy};
+ghost use Rattle.ta_core.specs.TreeAutomaton.{trans_cmp};
 ghost use Rattle.ta_core.specs.declared.trans.Trans.{Trans as Transition};
-ghost use Rattle.ta_clean.specs.Sizes.{AreMade, AreSettled, HasSizes, IsLeastFinal, IsPairOf, IsTermOf, Passes};
-ghost use Rattle.ta_clean.specs.Sizes.{SettledBy, SettledByFirst, SettledBySecond, size_at};
+ghost use Rattle.ta_clean.specs.Sizes.{AreLeast, AreMade, AreSettled, FollowedBy, HasSizes, IsFollowed, IsPairOf, IsUnmade, Lowers};
+ghost use Rattle.ta_clean.specs.Uses.{IsUseOf};
 
+use crate::meeting::product::Product;
+use crate::meeting::uses::{Slot, Use, Uses};
 use crate::sizes::{Made, SizeTable};
-use ranked_terms::{Seq, Term};
 use std::alloc::{AllocError, Global};
-use std::marker::Model;
 use ta_core::{Automaton, Trans};
 
-/// Two automata. Contracts see both.
-#[derive(Drop)]
-pub(crate) struct Both<'a> {
-    first: &'a Automaton,
-    second: &'a Automaton,
+/// The least sizes of the terms that run to pairs of states of the two automata. The only error is running out of memory.
+pub(crate) fn least_sizes(
+    alloc: Global,
+    first: &Automaton,
+    second: &Automaton,
+) -> Result<SizeTable, AllocError>
+    ensures { IfOk result (AreLeast (record { first = first.now; second = second.now })) }
+{
+    let mut sizes = SizeTable::new(alloc, first.next() as usize, second.next() as usize)?;
+    let mut first_uses = Uses::new(alloc, first.trans())?;
+    let mut second_uses = Uses::new(alloc, second.trans())?;
+    first_uses.refill(first.trans());
+    second_uses.refill(second.trans());
+    let product = Product::new(first, second, &first_uses, &second_uses);
+    product.settle(&mut sizes);
+    Ok(sizes)
 }
 
-impl<'a> Model for Both<'a> {
-    ghost use Rattle.ta_clean.specs.Products.{TwoAutomata};
-
-    ghost Value = { TwoAutomata };
-
-    ghost view = { λ both. record { first = both.first.now; second = both.second.now } };
-}
-
-impl<'a> Both<'a> {
-    /// These two.
-    pub(crate) fn new(first: &'a Automaton, second: &'a Automaton) -> Both<'a>
-        ensures { result ≡ record { first = first.now; second = second.now } }
-    {
-        Both { first, second }
-    }
-
-    /// Lowers the numbers of pairs until none falls.
-    pub(crate) fn settle(&self, sizes: &mut SizeTable)
-        requires has { HasSizes self.now sizes.old }
-        requires made { AreMade self.now sizes.old }
+impl<'a> Product<'a> {
+    /// Lowers the numbers of pairs from 1,025 to the least sizes. It takes no memory but for the buckets.
+    fn settle(&self, sizes: &mut SizeTable)
+        requires unmade { IsUnmade self.now.first.next self.now.second.next sizes.old }
         ensures has { HasSizes self.now sizes.new }
         ensures made { AreMade self.now sizes.new }
         ensures settled { AreSettled self.now sizes.new }
     {
-        while self.pass(sizes) {}
+        // For the proof: their contracts say what holds of every automaton.
+        let _ = self.first.next();
+        let _ = self.second.next();
+        self.lower_constants(sizes);
+        while let Some((first, second)) = sizes.take() {
+            self.lower_by_epsilons(first, second, sizes);
+            self.lower_by_transitions(first, second, sizes);
+        }
     }
 
-    /// Lowers the numbers of pairs by each two transitions and each epsilon transition once, and says whether one fell.
-    fn pass(&self, sizes: &mut SizeTable) -> bool
+    /// Lowers the numbers of the pairs to which two constants lead.
+    fn lower_constants(&self, sizes: &mut SizeTable)
         requires has { HasSizes self.now sizes.old }
         requires made { AreMade self.now sizes.old }
-        ensures { Passes self.now sizes.old sizes.new result (AreSettled self.now) }
+        ensures lowers { Lowers self.now sizes.old sizes.new }
+        ensures followed { (left : Transition) → Contains self.now.first.trans left → length left.args ≡ 0
+            → (right : Transition) → Contains self.now.second.trans right → FollowedBy left right sizes.new }
     {
-        let transitions = self.by_transitions(sizes);
-        let firsts = self.by_firsts(sizes);
-        let seconds = self.by_seconds(sizes);
-        (transitions | firsts) | seconds
-    }
-
-    /// By each two transitions.
-    fn by_transitions(&self, sizes: &mut SizeTable) -> bool
-        requires has { HasSizes self.now sizes.old }
-        requires made { AreMade self.now sizes.old }
-        ensures { Passes self.now sizes.old sizes.new result
-            (λ s. (left : Transition) → Contains self.now.first.trans left → (right : Transition)
-            → Contains self.now.second.trans right → SettledBy left right s) }
-    {
-        let mut fell = false;
         let lefts = self.first.trans();
         for (place, left) in lefts.iter().enumerate() {
-            let lower = self.by_left(place, left, sizes);
-            fell = fell | lower;
+            if left.args.as_slice().is_empty() {
+                self.lower_constant(place, left, sizes);
+            }
         }
-        fell
     }
 
-    /// By the transition of the first automaton at this place, and each of the second.
-    fn by_left(&self, place: usize, left: &Trans, sizes: &mut SizeTable) -> bool
+    /// Lowers the numbers of the pairs to which the transition of the first automaton at this place leads with those of the
+    /// second that have its symbol.
+    fn lower_constant(&self, place: usize, left: &Trans, sizes: &mut SizeTable)
         requires at { slice_get self.now.first.trans place ≡ Some left.now }
         requires has { HasSizes self.now sizes.old }
         requires made { AreMade self.now sizes.old }
-        ensures { Passes self.now sizes.old sizes.new result (λ s. (right : Transition)
-            → Contains self.now.second.trans right → SettledBy left.now right s) }
+        ensures lowers { Lowers self.now sizes.old sizes.new }
+        ensures followed { (right : Transition) → Contains self.now.second.trans right → FollowedBy left.now right sizes.new }
     {
-        let mut fell = false;
         let rights = self.second.trans();
-        for (other, right) in rights.iter().enumerate() {
-            let lower = self.by_two(place, left, other, right, sizes);
-            fell = fell | lower;
+        let (start, end) = places_with(rights, left.sym);
+        for other in start..end {
+            self.lower_by_two(place, left, other, &rights[other], sizes);
         }
-        fell
     }
 
-    /// By these two transitions, which stand at these places.
-    fn by_two(
+    /// Lowers the numbers of the pairs to which an epsilon transition of either automaton leads from this pair.
+    fn lower_by_epsilons(&self, first: u32, second: u32, sizes: &mut SizeTable)
+        requires has { HasSizes self.now sizes.old }
+        requires made { AreMade self.now sizes.old }
+        requires within { IsPairOf sizes.old (first, second) }
+        ensures lowers { Lowers self.now sizes.old sizes.new }
+        ensures first { (p : ℕ) → Contains self.now.first.eps (first, p)
+            → IsFollowed sizes.new ((first, second) ∷ []) (p, second) 0 }
+        ensures second { (q : ℕ) → Contains self.now.second.eps (second, q)
+            → IsFollowed sizes.new ((first, second) ∷ []) (first, q) 0 }
+    {
+        self.lower_by_firsts(first, second, sizes);
+        self.lower_by_seconds(first, second, sizes);
+    }
+
+    /// By the epsilon transitions of the first automaton.
+    fn lower_by_firsts(&self, first: u32, second: u32, sizes: &mut SizeTable)
+        requires has { HasSizes self.now sizes.old }
+        requires made { AreMade self.now sizes.old }
+        requires within { IsPairOf sizes.old (first, second) }
+        ensures lowers { Lowers self.now sizes.old sizes.new }
+        ensures followed { (p : ℕ) → Contains self.now.first.eps (first, p)
+            → IsFollowed sizes.new ((first, second) ∷ []) (p, second) 0 }
+    {
+        for (_, to) in self.first.eps_from(first) {
+            let made = sizes.get(first, second);
+            sizes.lower(*to, second, made);
+        }
+    }
+
+    /// By the epsilon transitions of the second automaton.
+    fn lower_by_seconds(&self, first: u32, second: u32, sizes: &mut SizeTable)
+        requires has { HasSizes self.now sizes.old }
+        requires made { AreMade self.now sizes.old }
+        requires within { IsPairOf sizes.old (first, second) }
+        ensures lowers { Lowers self.now sizes.old sizes.new }
+        ensures followed { (q : ℕ) → Contains self.now.second.eps (second, q)
+            → IsFollowed sizes.new ((first, second) ∷ []) (first, q) 0 }
+    {
+        for (_, to) in self.second.eps_from(second) {
+            let made = sizes.get(first, second);
+            sizes.lower(first, *to, made);
+        }
+    }
+
+    /// Lowers the numbers of the pairs to which two transitions of one symbol lead that have the two states at one place.
+    fn lower_by_transitions(&self, first: u32, second: u32, sizes: &mut SizeTable)
+        requires has { HasSizes self.now sizes.old }
+        requires made { AreMade self.now sizes.old }
+        ensures lowers { Lowers self.now sizes.old sizes.new }
+        ensures followed { (left right : Transition) → Contains self.now.first.trans left → Contains self.now.second.trans right
+            → Contains (zip left.args right.args) (first, second) → FollowedBy left right sizes.new }
+    {
+        for used in self.first_uses.of_state(first) {
+            self.lower_by_use(*used, second, sizes);
+        }
+    }
+
+    /// Lowers the numbers of the pairs to which the transition of this use leads with one of the second automaton that has the
+    /// state at the same place.
+    fn lower_by_use(&self, used: Use, second: u32, sizes: &mut SizeTable)
+        requires used { IsUseOf self.now.first.trans used }
+        requires has { HasSizes self.now sizes.old }
+        requires made { AreMade self.now sizes.old }
+        ensures lowers { Lowers self.now sizes.old sizes.new }
+        ensures followed { (left right : Transition) → slice_get self.now.first.trans used.position ≡ Some left
+            → Contains self.now.second.trans right → slice_get right.args used.slot.place ≡ Some second
+            → FollowedBy left right sizes.new }
+    {
+        let left = &self.first.trans()[used.position];
+        let rights = self.second.trans();
+        let slot = Slot {
+            state: second,
+            ..used.slot
+        };
+        for other in self.second_uses.at_slot(slot) {
+            let right = &rights[other.position];
+            self.lower_by_two(used.position, left, other.position, right, sizes);
+        }
+    }
+
+    /// Lowers the number of the pair to which the two transitions lead, which stand at these places, if they have one symbol.
+    fn lower_by_two(
         &self,
         place: usize,
         left: &Trans,
         other: usize,
         right: &Trans,
         sizes: &mut SizeTable,
-    ) -> bool
+    )
         requires at_left { slice_get self.now.first.trans place ≡ Some left.now }
         requires at_right { slice_get self.now.second.trans other ≡ Some right.now }
         requires has { HasSizes self.now sizes.old }
         requires made { AreMade self.now sizes.old }
-        ensures { Passes self.now sizes.old sizes.new result (SettledBy left.now right.now) }
+        ensures lowers { Lowers self.now sizes.old sizes.new }
+        ensures followed { FollowedBy left.now right.now sizes.new }
     {
         // For the proof: their contracts say what holds of every automaton.
         let _ = self.first.next();
@@ -112,150 +187,30 @@ impl<'a> Both<'a> {
         let firsts = left.args.as_slice();
         let seconds = right.args.as_slice();
         if left.sym != right.sym {
-            return false;
+            return;
         }
         if firsts.len() != seconds.len() {
-            return false;
+            return;
         }
         let size = sizes.sum_of(firsts, seconds);
         let made = Made {
             size,
+            waits: true,
             left: place,
             right: other,
         };
-        sizes.lower(left.to, right.to, made)
+        sizes.lower(left.to, right.to, made);
     }
+}
 
-    /// By each epsilon transition of the first automaton.
-    fn by_firsts(&self, sizes: &mut SizeTable) -> bool
-        requires has { HasSizes self.now sizes.old }
-        requires made { AreMade self.now sizes.old }
-        ensures { Passes self.now sizes.old sizes.new result (λ s. (e : ℕ × ℕ) → Contains self.now.first.eps e
-            → SettledByFirst self.now e s) }
-    {
-        let mut fell = false;
-        for (from, to) in self.first.eps() {
-            let lower = self.by_first(*from, *to, sizes);
-            fell = fell | lower;
-        }
-        fell
-    }
-
-    /// By this one, and each state of the second automaton.
-    fn by_first(&self, from: u32, to: u32, sizes: &mut SizeTable) -> bool
-        requires eps { Contains self.now.first.eps (from, to) }
-        requires has { HasSizes self.now sizes.old }
-        requires made { AreMade self.now sizes.old }
-        ensures { Passes self.now sizes.old sizes.new result (SettledByFirst self.now (from, to)) }
-    {
-        // For the proof: its contract says what holds of every automaton.
-        let _ = self.first.next();
-        let mut fell = false;
-        for state in self.second.states() {
-            let made = sizes.get(from, *state);
-            let lower = sizes.lower(to, *state, made);
-            fell = fell | lower;
-        }
-        fell
-    }
-
-    /// By each epsilon transition of the second automaton.
-    fn by_seconds(&self, sizes: &mut SizeTable) -> bool
-        requires has { HasSizes self.now sizes.old }
-        requires made { AreMade self.now sizes.old }
-        ensures { Passes self.now sizes.old sizes.new result (λ s. (e : ℕ × ℕ) → Contains self.now.second.eps e
-            → SettledBySecond self.now e s) }
-    {
-        let mut fell = false;
-        for (from, to) in self.second.eps() {
-            let lower = self.by_second(*from, *to, sizes);
-            fell = fell | lower;
-        }
-        fell
-    }
-
-    /// By this one, and each state of the first automaton.
-    fn by_second(&self, from: u32, to: u32, sizes: &mut SizeTable) -> bool
-        requires eps { Contains self.now.second.eps (from, to) }
-        requires has { HasSizes self.now sizes.old }
-        requires made { AreMade self.now sizes.old }
-        ensures { Passes self.now sizes.old sizes.new result (SettledBySecond self.now (from, to)) }
-    {
-        // For the proof: its contract says what holds of every automaton.
-        let _ = self.second.next();
-        let mut fell = false;
-        for state in self.first.states() {
-            let made = sizes.get(*state, from);
-            let lower = sizes.lower(*state, to, made);
-            fell = fell | lower;
-        }
-        fell
-    }
-
-    /// The final states of the two automata whose pair has the least number; these two or others.
-    pub(crate) fn least_final(&self, sizes: &SizeTable, first: u32, second: u32) -> (u32, u32)
-        requires first { Contains self.now.first.finals first }
-        requires second { Contains self.now.second.finals second }
-        ensures { IsLeastFinal self.now sizes.now result }
-    {
-        let mut least = (first, second);
-        for state in self.first.finals() {
-            least = self.least_with(sizes, *state, least);
-        }
-        least
-    }
-
-    /// The pair of the state and a final state of the second automaton that has the least number, or this one if it has.
-    fn least_with(&self, sizes: &SizeTable, state: u32, pair: (u32, u32)) -> (u32, u32)
-        requires state { Contains self.now.first.finals state }
-        requires first { Contains self.now.first.finals pair.0 }
-        requires second { Contains self.now.second.finals pair.1 }
-        ensures first { Contains self.now.first.finals result.0 }
-        ensures second { Contains self.now.second.finals result.1 }
-        ensures falls { size_at sizes.now result ≤ size_at sizes.now pair }
-        ensures least { (q : ℕ) → Contains self.now.second.finals q → size_at sizes.now result ≤ size_at sizes.now (state, q) }
-    {
-        let (mut first, mut second) = pair;
-        for other in self.second.finals() {
-            if sizes.get(state, *other).size < sizes.get(first, second).size {
-                first = state;
-                second = *other;
-            }
-        }
-        (first, second)
-    }
-
-    /// A term that runs to both states, of at most so many symbols as the number of the pair. The only error is running out of
-    /// memory.
-    pub(crate) fn build(
-        &self,
-        alloc: Global,
-        sizes: &SizeTable,
-        first: u32,
-        second: u32,
-    ) -> Result<Term, AllocError>
-        requires made { AreMade self.now sizes.now }
-        requires has { HasSizes self.now sizes.now }
-        requires within { IsPairOf sizes.now (first, second) }
-        requires small { size_at sizes.now (first, second) ≤ max_size }
-        ensures { IfOk result (IsTermOf self.now (first, second) (size_at sizes.now (first, second))) }
-    {
-        // For the proof: their contracts say what holds of every automaton.
-        let _ = self.first.next();
-        let _ = self.second.next();
-        let made = sizes.get(first, second);
-        let left = &self.first.trans()[made.left];
-        let right = &self.second.trans()[made.right];
-        let firsts = left.args.as_slice();
-        let seconds = right.args.as_slice();
-        let mut args = Seq::new(alloc);
-        for (place, state) in firsts.iter().enumerate() {
-            let arg = self.build(alloc, sizes, *state, seconds[place])?;
-            args.push(arg)?;
-        }
-        Ok(Term {
-            sym: left.sym,
-            args,
-        })
-    }
+/// The first place of a transition of the symbol in the list, and the place behind the last one.
+fn places_with(all: &[Trans], sym: u32) -> (usize, usize)
+    requires { IsStrictlySortedBy trans_cmp all.now }
+    ensures within { result.1 ≤ length all.now }
+    ensures start { (place : ℕ) (t : Transition) → slice_get all.now place ≡ Some t → t.sym ≡ sym → result.0 ≤ place }
+    ensures end { (place : ℕ) (t : Transition) → slice_get all.now place ≡ Some t → t.sym ≡ sym → place < result.1 }
+{
+    let start = all.partition_point(|t| t.sym < sym);
+    let end = all.partition_point(|t| t.sym <= sym);
+    (start, end)
 }

@@ -1,8 +1,9 @@
 //! How small the terms are that run to pairs of states.
-ghost use Rattle.std.specs.Prelude.{◌≡◌, ◌≤◌, ◌<◌, ◌+◌, true, false, length, IfOk};
+ghost use Rattle.std.specs.Prelude.{◌≡◌, ◌≤◌, ◌<◌, ◌+◌, ℕ, true, false, length, IfOk, IfSome, IfNone};
 ghost use Rattle.ta_core.specs.Limits.{max_states};
-ghost use Rattle.ta_clean.specs.Sizes.{IsLowered, IsPairOf, IsSizing, IsUnmade, made_at, size_at, sum_at};
+ghost use Rattle.ta_clean.specs.Sizes.{IsPairOf, IsSizing, IsUnmade, MayLower, StopsWaiting, made_at, sum_at, waits_at, waits_in};
 
+use crate::buckets::{Buckets, first_waiting};
 use std::alloc::{AllocError, Global};
 use std::marker::Model;
 
@@ -14,6 +15,8 @@ pub(crate) const TOO_LARGE: u32 = 1025;
 pub(crate) struct Made {
     /// A term of at most so many symbols runs to the pair.
     pub(crate) size: u32,
+    /// Whether what this number leads to has yet to be looked at.
+    pub(crate) waits: bool,
     /// The place of the first automaton's transition at its root.
     pub(crate) left: usize,
     /// The place of the second automaton's transition at its root.
@@ -23,16 +26,20 @@ pub(crate) struct Made {
 /// What is known of a pair at first.
 const UNMADE: Made = Made {
     size: TOO_LARGE,
+    waits: false,
     left: 0,
     right: 0,
 };
 
-/// How small terms run to the pairs of a number below the height and one below the width. Contracts see the numbers.
+/// How small terms run to the pairs of a number below the height and one below the width, and which pairs wait. Contracts see the
+/// numbers, and for each pair whether it waits.
 #[derive(Drop)]
 pub(crate) struct SizeTable {
     height: usize,
     width: usize,
     made: Vec<Made>,
+    // The places that wait, but for those for which there was no memory.
+    buckets: Buckets,
 }
 
 impl Model for SizeTable {
@@ -53,10 +60,12 @@ impl SizeTable {
         ensures { IfOk result (IsUnmade height width) }
     {
         let made = vec![in alloc; UNMADE; height * width]?;
+        let buckets = Buckets::new(alloc)?;
         Ok(SizeTable {
             height,
             width,
             made,
+            buckets,
         })
     }
 
@@ -72,20 +81,51 @@ impl SizeTable {
         UNMADE
     }
 
-    /// Takes this in place of what is known of the pair, if it is a smaller number, and says whether it is.
-    pub(crate) fn lower(&mut self, first: u32, second: u32, made: Made) -> bool
+    /// Takes this in place of what is known of the pair, if it is a smaller number, and lets the pair wait then.
+    pub(crate) fn lower(&mut self, first: u32, second: u32, made: Made)
         requires { IsPairOf self.old (first, second) }
-        ensures lowered { result ≡ true → IsLowered self.old self.new (first, second) made }
-        ensures same { result ≡ false → self.new ≡ self.old }
-        ensures least { result ≡ false → size_at self.old (first, second) ≤ made.size }
+        ensures may { MayLower self.old self.new (first, second) made }
         ensures table { IsSizing self.old }
     {
         let place = first as usize * self.width + second as usize;
-        let smaller = made.size < self.made[place].size;
-        if smaller {
-            self.made[place] = made;
+        if made.size < self.made[place].size {
+            self.made[place] = Made {
+                waits: true,
+                ..made
+            };
+            self.buckets.put(made.size, place);
         }
-        smaller
+    }
+
+    /// A pair that waits, if one does: one of least number, unless there was no memory for it. It no longer waits.
+    pub(crate) fn take(&mut self) -> Option<(u32, u32)>
+        ensures some { IfSome result (StopsWaiting self.old self.new) }
+        ensures none { IfNone result ((pair : ℕ × ℕ) → waits_at self.new pair ≡ false) }
+        ensures same { IfNone result (self.new ≡ self.old) }
+        ensures table { IsSizing self.old }
+    {
+        let Some(place) = self.next_waiting() else {
+            return None;
+        };
+        let made = self.made[place];
+        self.made[place] = Made {
+            waits: false,
+            ..made
+        };
+        Some(((place / self.width) as u32, (place % self.width) as u32))
+    }
+
+    /// A place that waits, if one does: one of the buckets, or the first that is found once they have none.
+    fn next_waiting(&mut self) -> Option<usize>
+        ensures some { IfSome result (λ place. waits_in self.old.made place ≡ true) }
+        ensures none { IfNone result ((place : ℕ) → waits_in self.old.made place ≡ false) }
+        ensures same { self.new ≡ self.old }
+        ensures table { IsSizing self.old }
+    {
+        if let Some(place) = self.buckets.take(self.made.as_slice()) {
+            return Some(place);
+        }
+        first_waiting(self.made.as_slice())
     }
 
     /// The sum of the numbers of the pairs of a first and a second state at one place, and 1, at most `TOO_LARGE`.

@@ -4,11 +4,12 @@ ghost use Rattle.ta_core.specs.Languages.{Accepts};
 ghost use Rattle.ta_clean.specs.Meeting.{IsCommon};
 ghost use Rattle.ta_clean.specs.Least.{Witnesses};
 
+use crate::building::Both;
 use crate::emptiness::all_terms;
 use crate::final_pairs::least_meeting;
 use crate::meeting::Meetings;
-use crate::settling::Both;
-use crate::sizes::{SizeTable, TOO_LARGE};
+use crate::settling::least_sizes;
+use crate::sizes::TOO_LARGE;
 use ranked_terms::{Seq, Term};
 use std::alloc::{AllocError, Global};
 use ta_core::Automaton;
@@ -56,9 +57,11 @@ pub fn common_witness(
     let Some((some_first, some_second)) = least_meeting(&mut meetings, first, second) else {
         return Ok(Witness::None);
     };
+    // For the proof: their contracts say what holds of every automaton.
+    let _ = first.next();
+    let _ = second.next();
+    let sizes = least_sizes(alloc, first, second)?;
     let both = Both::new(first, second);
-    let mut sizes = SizeTable::new(alloc, first.next() as usize, second.next() as usize)?;
-    both.settle(&mut sizes);
     let (state, other) = both.least_final(&sizes, some_first, some_second);
     if sizes.get(state, other).size >= TOO_LARGE {
         return Ok(Witness::Large);

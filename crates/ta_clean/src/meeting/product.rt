@@ -18,11 +18,11 @@ use ta_core::{Automaton, Trans};
 
 /// Two automata, with the uses of their states. Contracts see the automata.
 #[derive(Drop)]
-pub(super) struct Product<'a> {
-    first: &'a Automaton,
-    second: &'a Automaton,
-    first_uses: &'a Uses,
-    second_uses: &'a Uses,
+pub(crate) struct Product<'a> {
+    pub(crate) first: &'a Automaton,
+    pub(crate) second: &'a Automaton,
+    pub(crate) first_uses: &'a Uses,
+    pub(crate) second_uses: &'a Uses,
 }
 
 impl<'a> Model for Product<'a> {
@@ -39,7 +39,7 @@ impl<'a> Model for Product<'a> {
 
 impl<'a> Product<'a> {
     /// The two automata, with their uses.
-    pub(super) fn new(
+    pub(crate) fn new(
         first: &'a Automaton,
         second: &'a Automaton,
         first_uses: &'a Uses,
