@@ -7,10 +7,10 @@ use Rattle.ta_clean.proofs.least.Waiting.{AreFollowed, has_lowered, pair_lowered
 use Rattle.ta_clean.proofs.meeting.product.Product.settle.Goals as goal
 
 pub lower_constants-requires-clause-has : goal.lower_constants-requires-clause-has
-lower_constants-requires-clause-has c = record { first = omega (arith, c.requires.height_is); second = omega (arith, c.requires.width_is) }
+lower_constants-requires-clause-has c = record { first = omega (arith, c.requires.unmade.height_is); second = omega (arith, c.requires.unmade.width_is) }
 
 pub lower_constants-requires-clause-made : goal.lower_constants-requires-clause-made
-lower_constants-requires-clause-made c = let both = c.args.self.now in unmade_is_made both both.first.next both.second.next c.args.sizes.now c.requires
+lower_constants-requires-clause-made c = let both = c.args.self.now in unmade_is_made both both.first.next both.second.next c.args.sizes.now c.requires.unmade
 
 pub loop-first-init : goal.loop-first-init
 loop-first-init c =
@@ -18,9 +18,9 @@ loop-first-init c =
     let old = c.args.sizes.now in
     let now = c.lower_constants.new.sizes in
     record {
-      has = has_lowered both old now (record { first = omega (arith, c.requires.height_is); second = omega (arith, c.requires.width_is) }) c.lower_constants.ensures.lowers;
+      has = has_lowered both old now (record { first = omega (arith, c.requires.unmade.height_is); second = omega (arith, c.requires.unmade.width_is) }) c.lower_constants.ensures.lowers;
       made = c.lower_constants.ensures.lowers.made;
-      followed = followed_starts both both.first.next both.second.next old now c.requires c.lower_constants.ensures.lowers c.lower_constants.ensures.followed;
+      followed = followed_starts both both.first.next both.second.next old now c.requires.unmade c.lower_constants.ensures.lowers c.lower_constants.ensures.followed;
     }
 
 pub lower_by_epsilons-requires-clause-has : goal.lower_by_epsilons-requires-clause-has
