@@ -1,5 +1,5 @@
 -- Numbers for pairs of states of two automata: the least sizes of the terms that run to both, up to 1,024. These serve private contracts alone.
-use Rattle.std.specs.Prelude.{◌≡◌, ◌⊎◌, ℕ, Bool, true, false, ◌+◌, ◌*◌, ◌<◌, ◌≤◌, List, [], ◌∷◌, map, sum, sum_by, zip, replicate, length, get_or, Some, slice_get, slice_set, All, Contains}
+use Rattle.std.specs.Prelude.{◌≡◌, ◌⊎◌, ℕ, Bool, true, false, ◌+◌, ◌*◌, ◌<◌, ◌≤◌, List, map, sum, sum_by, zip, replicate, length, get_or, Some, slice_get, slice_set, All, Contains}
 use Rattle.ranked_terms.specs.Limits.{max_size}
 use Rattle.ta_core.specs.Limits.{max_states}
 use Rattle.ranked_terms.specs.Terms.{config_of, size_of}

@@ -11,7 +11,7 @@ use Rattle.list_laws.proofs.Members.{here, there, parts, none}
 use Rattle.ta_core.specs.TreeAutomaton.{IsSound, IsEpsOf}
 use Rattle.ta_core.specs.declared.trans.Trans.{Trans}
 use Rattle.ta_clean.specs.Products.{TwoAutomata}
-use Rattle.ta_clean.specs.Sizes.{Sizing, IsSizing, IsUnmade, IsPairOf, IsLowered, MayLower, StopsWaiting, IsMadeBy, AreMade, AreSettled, HasSizes, Lowers, SomeWaits, IsFollowed, FollowedBy, unmade, made_at, size_at, sum_at, waits_in, waits_at, work_at, work_of}
+use Rattle.ta_clean.specs.Sizes.{Sizing, IsSizing, IsUnmade, IsPairOf, MayLower, StopsWaiting, IsMadeBy, AreMade, AreSettled, HasSizes, Lowers, SomeWaits, IsFollowed, FollowedBy, unmade, made_at, size_at, sum_at, waits_in, waits_at, work_at, work_of}
 use Rattle.ta_clean.specs.declared.sizes.Made.{Made}
 use Rattle.ta_clean.specs.Uses.{IsUseOf, AreUsesOf}
 use Rattle.ta_clean.specs.declared.meeting.uses.Use.{Use}
@@ -19,7 +19,7 @@ use Rattle.ta_clean.proofs.marking.TableMarks.{same_place, pair_same}
 use Rattle.ta_clean.proofs.marking.UseLists.{use_of, used_sym}
 use Rattle.ta_clean.proofs.least.Sizing.{sum_first, sum_falls, within, unmade_at}
 use Rattle.ta_clean.proofs.least.Building.{argument_in}
-use Rattle.ta_clean.proofs.least.Lowering.{pair_in, state_below}
+use Rattle.ta_clean.proofs.least.Lowering.{pair_in}
 
 nat_cases : (m n : ℕ) → (m ≡ n) ⊎ (m ≡ n → ⊥)
 nat_cases m n = ⊎_elim (λ l. inr (λ e. omega (arith, e, l))) (λ h. ⊎_elim (λ l. inr (λ e. omega (arith, e, l))) (λ k. inl (omega (arith, h, k))) (cases_lt n m)) (cases_lt m n)

@@ -1,4 +1,4 @@
-use Rattle.std.proofs.Common.{◌≡◌, ◌<◌, ltb, leb, rules, Some, slice_get, ap, subst, ⊎_elim, arith}
+use Rattle.std.proofs.Common.{ltb, leb, rules, ap, ⊎_elim, arith}
 use Rattle.std.proofs.lemmas.Bool.{cases_lt, ltb-true, leb-false}
 use Rattle.std.proofs.lemmas.List.Sorted.{IsPartitionPoint-from_clause, IsPartitionedBy-ltb, IsPartitionedBy-leb}
 use Rattle.std.proofs.lemmas.Option.{slice_get_within, get_or_from_slice_get}
@@ -13,8 +13,8 @@ returns-clause-start c place t at e =
     let point = IsPartitionPoint-from_clause (λ (t : Trans). ltb t.sym c.args.sym) all _ c.partition_point-start.ensures.partitioned (IsPartitionedBy-ltb (λ (t : Trans). t.sym) all c.args.sym (trans_ascend all c.requires)) (λ a r f' called. search rules) in
     ⊎_elim
     (λ before. absurd (
-      let l = ltb-true _ _ (point.0 place t (omega arith) before) in
-      omega (arith, l, e, ap (λ (u : Trans). u.sym) (get_or_from_slice_get all place t t at))
+    let l = ltb-true _ _ (point.0 place t (omega arith) before) in
+    omega (arith, l, e, ap (λ (u : Trans). u.sym) (get_or_from_slice_get all place t t at))
     ))
     (λ low. low)
     (cases_lt place start)
@@ -27,7 +27,7 @@ returns-clause-end c place t at e =
     ⊎_elim
     (λ high. high)
     (λ behind. absurd (
-      let l = leb-false _ _ (point.1 place t behind (slice_get_within all place t at)) in
-      omega (arith, l, e, ap (λ (u : Trans). u.sym) (get_or_from_slice_get all place t t at))
+    let l = leb-false _ _ (point.1 place t behind (slice_get_within all place t at)) in
+    omega (arith, l, e, ap (λ (u : Trans). u.sym) (get_or_from_slice_get all place t t at))
     ))
     (cases_lt place end)

@@ -1,6 +1,5 @@
-use Rattle.std.proofs.Common.{◌≡◌, ◌/◌, ◌%◌, ◌≤◌, ℕ, true, false, set, sym, subst, ◌∙◌, arith}
+use Rattle.std.proofs.Common.{◌≡◌, ◌/◌, ◌%◌, ℕ, true, false, set, sym, subst, ◌∙◌, arith}
 use Rattle.ta_clean.specs.Sizes.{Sizing, StopsWaiting, waits_in, waits_at}
-use Rattle.ta_clean.proofs.least.Sizing.{sizing_set}
 use Rattle.ta_clean.proofs.least.Waiting.{place_within, place_wide, pair_within, place_stops, none_waits}
 use Rattle.ta_clean.proofs.sizes.SizeTable.take.Goals as goal
 

@@ -1,8 +1,8 @@
-use Rattle.std.proofs.Common.{◌≡◌, ◌≤◌, ◌<◌, ◌+◌, ◌∙◌, ℕ, List, length, zip, sym, ap, subst, ⊎_elim, arith}
+use Rattle.std.proofs.Common.{◌≡◌, ◌∙◌, ℕ, List, length, zip, sym, ap, subst, ⊎_elim, arith}
 use Rattle.std.proofs.lemmas.Bool.{cases_lt}
 use Rattle.ta_core.specs.TreeAutomaton.{IsSound}
 use Rattle.ta_clean.specs.Products.{TwoAutomata}
-use Rattle.ta_clean.specs.Sizes.{IsPairOf, Lowers, sum_at}
+use Rattle.ta_clean.specs.Sizes.{Lowers, sum_at}
 use Rattle.ta_clean.proofs.least.Lowering.{made_of, two_made, targets_in, at_contains}
 use Rattle.ta_clean.proofs.least.Waiting.{lowers_itself, may_lower, may_reach, followed_now}
 use Rattle.ta_clean.proofs.meeting.product.Product.lower_by_two.Goals as goal

@@ -1,9 +1,9 @@
-use Rattle.std.proofs.Common.{◌≡◌, ◌≤◌, ◌<◌, ℕ, sym, subst, arith}
+use Rattle.std.proofs.Common.{ℕ, sym, subst, arith}
 use Rattle.ta_core.specs.TreeAutomaton.{IsSound}
 use Rattle.ta_clean.specs.Products.{TwoAutomata}
-use Rattle.ta_clean.specs.Sizes.{Sizing, AreMade, AreSettled, HasSizes, waits_at}
+use Rattle.ta_clean.specs.Sizes.{AreMade, HasSizes}
 use Rattle.ta_clean.proofs.least.Sizing.{unmade_is_made}
-use Rattle.ta_clean.proofs.least.Waiting.{AreFollowed, has_lowered, pair_lowered, has_taken, made_taken, pair_taken, work_taken, followed_starts, followed_more, followed_ends}
+use Rattle.ta_clean.proofs.least.Waiting.{AreFollowed, has_lowered, has_taken, made_taken, pair_taken, work_taken, followed_starts, followed_more, followed_ends}
 use Rattle.ta_clean.proofs.meeting.product.Product.settle.Goals as goal
 
 pub lower_constants-requires-clause-has : goal.lower_constants-requires-clause-has
