@@ -62,6 +62,13 @@ impl<'a> Tabled<'a> {
         })
     }
 
+    /// The automaton.
+    pub(crate) fn automaton(&self) -> &Automaton
+        ensures { result.now ≡ self.now }
+    {
+        self.automaton
+    }
+
     /// The states in ascending order.
     pub(crate) fn states(&self) -> &[u32]
         ensures value { result.now ≡ self.now.states }

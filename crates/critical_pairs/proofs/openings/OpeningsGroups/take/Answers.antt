@@ -6,7 +6,7 @@ use Rattle.critical_pairs.proofs.openings.OpeningsGroups.take.Goals as goal
 
 pub returns-then-len-room-clause-ended : goal.returns-then-len-room-clause-ended
 returns-then-len-room-clause-ended c = λ yes.
-    let s : Setting = record { automaton = c.self.inside.automaton.now; number = c.self.inside.number; rule = c.self.inside.rule.now } in
+    let s : Setting = record { automaton = c.self.inside.matcher.now; number = c.self.inside.number; rule = c.self.inside.rule.now } in
     exceeded s c.self.inside.limit c.self.inside.pairs c.args.self.now c.self.view_is (group_of c.args.assignment.now c.args.states.now) c.in_ok-open.open.items
     (opens_are s c.args.assignment.now c.args.states.now c.in_ok-reached.reached c.in_ok-open.open.items
     (reached_by s c.args.assignment.now c.in_ok-reached.reached c.vars-vars.result.now c.right-right.result.now c.vars-vars.ensures.list c.right-right.ensures.side c.in_ok-reached.ensures)
@@ -15,7 +15,7 @@ returns-then-len-room-clause-ended c = λ yes.
 
 pub returns-clause-took : goal.returns-clause-took
 returns-clause-took c = λ yes.
-    let s : Setting = record { automaton = c.self.inside.automaton.now; number = c.self.inside.number; rule = c.self.inside.rule.now } in
+    let s : Setting = record { automaton = c.self.inside.matcher.now; number = c.self.inside.number; rule = c.self.inside.rule.now } in
     added s c.self.inside.limit c.self.inside.pairs c.args.self.now c.self.view_is (group_of c.args.assignment.now c.args.states.now) c.in_ok-open.open.items
     (opens_are s c.args.assignment.now c.args.states.now c.in_ok-reached.reached c.in_ok-open.open.items
     (reached_by s c.args.assignment.now c.in_ok-reached.reached c.vars-vars.result.now c.right-right.result.now c.vars-vars.ensures.list c.right-right.ensures.side c.in_ok-reached.ensures)
