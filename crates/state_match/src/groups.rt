@@ -8,7 +8,8 @@ ghost use Rattle.state_match.specs.Groups.{group_of, TookAll, TookFirst, TookUpT
 use crate::bound::Bound;
 use crate::join::first_wanted;
 use crate::matcher::Matcher;
-use crate::plain::{reversed, runs_for};
+use crate::plain::runs_for;
+use crate::turned::Turned;
 use crate::walk::walk;
 use ranked_terms::Pattern;
 use std::alloc::{AllocError, Global};
@@ -107,10 +108,10 @@ fn each_in<V: Groups>(
     if vars.is_empty() {
         return take_only(plain, automaton, matcher, pattern, vars, visitor);
     }
-    if let Some(turned) = matcher.reversed() {
+    if let Some(turned) = matcher.turned() {
         return each_by(plain, automaton, matcher, turned, pattern, vars, visitor);
     }
-    let turned = reversed(matcher.alloc(), matcher.automaton())?;
+    let turned = Turned::of(matcher.alloc(), matcher.automaton())?;
     each_by(plain, automaton, matcher, &turned, pattern, vars, visitor)
 }
 
@@ -119,14 +120,14 @@ fn each_by<V: Groups>(
     plain: bool,
     automaton: &Automaton,
     matcher: &Matcher,
-    reversed: &Automaton,
+    turned: &Turned,
     pattern: &Pattern,
     vars: &[u32],
     visitor: &mut V,
 ) -> Result<bool, AllocError>
     requires short { length vars.now ≤ max_variables }
     requires runs { RunsFor plain automaton.now matcher.now }
-    requires reverse { IsReverse matcher.now reversed.now }
+    requires reverse { IsReverse matcher.now turned.now }
     ensures whole { IfOk result (λ on. IsTrue on →
         TookAll V.took (MatchesAt plain automaton.now vars.now pattern.now) [] visitor.old visitor.new) }
     ensures ended { IfOk result (λ on. IsTrue (not on) →
@@ -137,9 +138,9 @@ fn each_by<V: Groups>(
     let alloc = matcher.alloc();
     let tabled = matcher.tabled();
     let all = matcher.all();
-    let first = first_wanted(alloc, tabled, reversed, all, pattern)?;
+    let first = first_wanted(alloc, tabled, turned, all, pattern)?;
     let start = Bound::new(
-        alloc, plain, automaton, tabled, reversed, all, &first, pattern, vars,
+        alloc, plain, automaton, tabled, turned, all, &first, pattern, vars,
     );
     let mut assignment = Vec::new(alloc);
     walk(&start, vars.len(), &mut assignment, visitor)

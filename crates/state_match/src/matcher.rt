@@ -6,8 +6,8 @@ ghost use Rattle.ta_core.specs.Runs.{Runs};
 ghost use Rattle.state_match.specs.Rows.{IsReverse};
 
 use crate::assigned::assigned_states;
-use crate::plain::reversed;
 use crate::tabled::Tabled;
+use crate::turned::Turned;
 use ranked_terms::Pattern;
 use std::alloc::{AllocError, Global};
 use std::marker::Model;
@@ -21,7 +21,7 @@ pub struct Matcher<'a> {
     tabled: Tabled<'a>,
     all: StateSet,
     // Made only where patterns with variables are to come.
-    reversed: Option<Automaton>,
+    turned: Option<Turned>,
 }
 
 impl<'a> Model for Matcher<'a> {
@@ -33,7 +33,7 @@ impl<'a> Model for Matcher<'a> {
 
     ghost view = { λ matcher. matcher.tabled };
 
-    ghost invariant = { λ matcher. (matcher.all ≡ matcher.tabled.states) × IfSome matcher.reversed (IsReverse matcher.tabled) };
+    ghost invariant = { λ matcher. (matcher.all ≡ matcher.tabled.states) × IfSome matcher.turned (IsReverse matcher.tabled) };
 }
 
 impl<'a> Matcher<'a> {
@@ -48,12 +48,12 @@ impl<'a> Matcher<'a> {
     {
         let tabled = Tabled::new(alloc, automaton)?;
         let all = StateSet::from_slice(alloc, automaton.states())?;
-        let reversed = reversed_if(alloc, automaton, has_variables)?;
+        let turned = turned_if(alloc, automaton, has_variables)?;
         Ok(Matcher {
             alloc,
             tabled,
             all,
-            reversed,
+            turned,
         })
     }
 
@@ -98,24 +98,24 @@ impl<'a> Matcher<'a> {
     }
 
     /// The automaton turned round, where it was made.
-    pub(crate) fn reversed(&self) -> Option<&Automaton>
-        ensures { IfSome result (λ reversed. IsReverse self.now reversed.now) }
+    pub(crate) fn turned(&self) -> Option<&Turned>
+        ensures { IfSome result (λ turned. IsReverse self.now turned.now) }
     {
-        self.reversed.as_ref()
+        self.turned.as_ref()
     }
 }
 
 /// The automaton turned round, where it is asked for. The only error is running out of memory.
-fn reversed_if(
+fn turned_if(
     alloc: Global,
     automaton: &Automaton,
     is_asked: bool,
-) -> Result<Option<Automaton>, AllocError>
+) -> Result<Option<Turned>, AllocError>
     ensures { IfOk result (λ made. IfSome made (IsReverse automaton.now)) }
 {
     if !is_asked {
         return Ok(None);
     }
-    let made = reversed(alloc, automaton)?;
-    Ok(Some(made))
+    let turned = Turned::of(alloc, automaton)?;
+    Ok(Some(turned))
 }
