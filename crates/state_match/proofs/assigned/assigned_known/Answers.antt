@@ -1,4 +1,4 @@
-use Rattle.std.proofs.Common.{ℕ, [], ◌↔◌, Contains, sym, subst, List}
+use Rattle.std.proofs.Common.{ℕ, [], ◌↔◌, Contains, subst, List}
 use Rattle.std.proofs.lemmas.List.{append-nil}
 use Rattle.ranked_terms.specs.Terms.{assigned}
 use Rattle.ta_core.specs.Closure.{state_in}
