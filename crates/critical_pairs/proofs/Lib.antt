@@ -1,4 +1,3 @@
 pub mod Joined
-pub mod Outside
 pub mod Opens
 pub mod Triples

@@ -12,7 +12,7 @@ use Rattle.trs_rules.specs.declared.sigma.Pair.{Pair}
 use Rattle.ranked_terms.specs.declared.term.Pattern.{Pattern}
 use Rattle.ta_core.specs.Runs.{Runs}
 use Rattle.ranked_terms.specs.Terms.{assigned}
-use Rattle.ta_core.specs.Closure.{state_in, assigned_by}
+use Rattle.ta_core.specs.Closure.{state_in}
 use Rattle.ta_core.specs.ClosureLaws.{pair_order}
 use Rattle.list_laws.proofs.Ascending.{ascends-map, second_decides}
 use Rattle.list_laws.proofs.Members.{map_has, map_had}
@@ -150,14 +150,15 @@ over_limit s u v e t =
 
 -- ---- one assignment, as the code has it
 
-pub reached_by : (s : Setting) (σ reached vars : List ℕ) (side : Pattern) → vars ≡ s.rule.vars → side ≡ s.rule.right → ((q : ℕ) → Contains reached q ↔ Runs s.automaton (assigned (state_in vars σ) side) q) →
-    (q : ℕ) → Contains reached q ↔ Runs s.automaton (assigned_by s.rule σ s.rule.right) q
-reached_by s σ reached vars side e f exact q =
-    subst (λ vs. Contains reached q ↔ Runs s.automaton (assigned (state_in vs σ) s.rule.right) q) e (subst (λ p. Contains reached q ↔ Runs s.automaton (assigned (state_in vars σ) p) q) f (exact q))
+pub missed_by : (s : Setting) (σ states opens vars : List ℕ) (side : Pattern) → vars ≡ s.rule.vars → side ≡ s.rule.right →
+    ((q : ℕ) → Contains opens q ↔ (Contains states q × (Runs s.automaton (assigned (state_in vars σ) side) q → ⊥))) → (q : ℕ) → Contains opens q ↔ (Contains states q × IsMissed s σ q)
+missed_by s σ states opens vars side e f exact q =
+    subst (λ vs. Contains opens q ↔ (Contains states q × (Runs s.automaton (assigned (state_in vs σ) s.rule.right) q → ⊥))) e
+    (subst (λ p. Contains opens q ↔ (Contains states q × (Runs s.automaton (assigned (state_in vars σ) p) q → ⊥))) f (exact q))
 
-pub opens_are : (s : Setting) (σ states reached open_states : List ℕ) → ((q : ℕ) → Contains reached q ↔ Runs s.automaton (assigned_by s.rule σ s.rule.right) q) → IsStrictlySortedBy nat_cmp open_states →
-    ((q : ℕ) → Contains open_states q ↔ (Contains states q × (Contains reached q → ⊥))) → IsListing pair_order (IsOpenIn s (group_of σ states)) (map (pair_of s.number σ) open_states)
-opens_are s σ states reached opens exact sorted members =
+pub opens_are : (s : Setting) (σ states open_states : List ℕ) → IsStrictlySortedBy nat_cmp open_states → ((q : ℕ) → Contains open_states q ↔ (Contains states q × IsMissed s σ q)) →
+    IsListing pair_order (IsOpenIn s (group_of σ states)) (map (pair_of s.number σ) open_states)
+opens_are s σ states opens sorted members =
     let of = pair_of s.number σ in
     record {
       ascends = ascends-map nat_cmp pair_order of (λ p q l. second_decides nat_cmp_total s.number _ (second_decides nat_list_cmp_total σ (nat_cmp p q) l)) opens sorted;
@@ -165,8 +166,8 @@ opens_are s σ states reached opens exact sorted members =
         λ c.
             let h = map_had of opens x c in
             let m = (members h.0).0 h.1 in
-            subst (IsOpenIn s (group_of σ states)) h.2 (record { number = refl; sigma = refl; state = m.0; right = λ r. m.1 ((exact h.0).1 r) }),
-        λ o. map_has of opens x.state x ((members x.state).1 (o.state, λ c. o.right ((exact x.state).0 c))) (λ i. pair_of (sym o.number i) (sym o.sigma i) x.state),
+            subst (IsOpenIn s (group_of σ states)) h.2 (record { number = refl; sigma = refl; state = m.0; right = m.1 }),
+        λ o. map_has of opens x.state x ((members x.state).1 (o.state, o.right)) (λ i. pair_of (sym o.number i) (sym o.sigma i) x.state),
       );
     }
 

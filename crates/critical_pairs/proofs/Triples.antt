@@ -22,7 +22,7 @@ use Rattle.ta_core.specs.ClosureLaws.{pair_order, OpenPairsAreListed, OpenPairsA
 use Rattle.list_laws.proofs.Ascending.{ascends-append}
 use Rattle.list_laws.proofs.Places.{nothing_ascends}
 use Rattle.ta_core.specs.lemmas.RunsLaws.{run_ends}
-use Rattle.critical_pairs.specs.Opens.{Setting, IsOpenOf, AddsAll, ExceedsWith, Opening}
+use Rattle.critical_pairs.specs.Opens.{Setting, IsOpenOf, AddsAll, ExceedsWith}
 use Rattle.critical_pairs.proofs.Joined.{listing_none, listing_by, listing_append}
 
 pub rule_at : (R : List RewriteRule) (i : ℕ) (rule : RewriteRule) → i < length R → rule ≡ get_or R i rule → slice_get R i ≡ Some rule
@@ -37,11 +37,6 @@ pair_order_total = then_total (on_total (λ (x : Pair). x.rule) nat_cmp_total) (
 
 abbrev pub setting_of : TreeAutomaton → ℕ → RewriteRule → Setting
 setting_of A i rule = record { automaton = A; number = i; rule = rule }
-
--- of an equal automaton
-pub opening_at : (A B : TreeAutomaton) → A ≡ B → (number limit : ℕ) (rule : RewriteRule) (pairs : List Pair) (o : Opening) → o ≡ record { setting = setting_of A number rule; limit = limit; pairs = pairs } →
-    o ≡ record { setting = setting_of B number rule; limit = limit; pairs = pairs }
-opening_at A B e number limit rule pairs o is = subst (λ (C : TreeAutomaton). o ≡ record { setting = setting_of C number rule; limit = limit; pairs = pairs }) e is
 
 -- an open triple of one of the first rules
 pub record IsOpenBefore (A : TreeAutomaton) (R : List RewriteRule) (i : ℕ) (pair : Pair) : Type 0 where

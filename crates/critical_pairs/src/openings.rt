@@ -1,23 +1,19 @@
 //! The open pairs of one rule, found assignment by assignment.
-ghost use Rattle.std.specs.Prelude.{◌≡◌, ◌↔◌, ◌≤◌, ◌++◌, ℕ, length, map, Contains, IfOk, OnOk};
+ghost use Rattle.std.specs.Prelude.{◌≡◌, ◌≤◌, ◌++◌, length, map, OnOk};
 ghost use Rattle.ranked_terms.specs.Limits.{max_variables};
-ghost use Rattle.std.specs.Ordering.{nat_cmp};
-ghost use Rattle.std.specs.List.Sorted.{IsStrictlySortedBy};
 ghost use Rattle.critical_pairs.specs.Opens.{pair_of};
 
 use ranked_terms::Seq;
-use state_match::{Groups, Tabled, assigned_states};
+use state_match::{Groups, Matcher};
 use std::alloc::{AllocError, Global};
 use std::marker::Model;
-use ta_core::StateSet;
 use trs_rules::{Pair, Rule, Sigma};
 
 /// Takes the assignments at which the left side of a rule runs, and keeps the rule's open pairs up to a limit.
 #[derive(Drop)]
 pub(crate) struct Openings<'a> {
     alloc: Global,
-    automaton: &'a Tabled<'a>,
-    states: &'a StateSet,
+    matcher: &'a Matcher<'a>,
     number: u32,
     rule: &'a Rule,
     limit: u32,
@@ -25,7 +21,6 @@ pub(crate) struct Openings<'a> {
 }
 
 impl<'a> Model for Openings<'a> {
-    ghost use Rattle.std.specs.Prelude.{◌≡◌};
     ghost use Rattle.std.specs.Coded.{codes};
     ghost use Rattle.ranked_terms.specs.contracts.term.Pattern as patterns;
     ghost use Rattle.critical_pairs.specs.Opens.{Opening};
@@ -35,36 +30,31 @@ impl<'a> Model for Openings<'a> {
     ghost coded = { Prim.hlevel (codes, patterns.the_row.coded) };
 
     ghost view = { λ o. record {
-      setting = record { automaton = o.automaton.now; number = o.number; rule = o.rule.now };
+      setting = record { automaton = o.matcher.now; number = o.number; rule = o.rule.now };
       limit = o.limit;
       pairs = o.pairs;
     } };
-
-    ghost invariant = { λ o. o.states.now ≡ o.automaton.now.states };
 }
 
 impl<'a> Openings<'a> {
-    /// Begins with these pairs. It takes no memory. The states are all states of the automaton.
+    /// Begins with these pairs. It takes no memory.
     pub(crate) fn new(
         alloc: Global,
-        automaton: &'a Tabled<'a>,
-        states: &'a StateSet,
+        matcher: &'a Matcher<'a>,
         number: u32,
         rule: &'a Rule,
         limit: u32,
         pairs: Seq<Pair>,
     ) -> Openings<'a>
-        requires { states.now ≡ automaton.now.states }
         ensures { result ≡ record {
-          setting = record { automaton = automaton.now; number = number; rule = rule.now };
+          setting = record { automaton = matcher.now; number = number; rule = rule.now };
           limit = limit;
           pairs = pairs;
         } }
     {
         Openings {
             alloc,
-            automaton,
-            states,
+            matcher,
             number,
             rule,
             limit,
@@ -92,15 +82,7 @@ impl<'a> Groups for Openings<'a> {
     fn take(&mut self, assignment: &[u32], states: &[u32]) -> Result<bool, AllocError> {
         let vars = self.rule.vars();
         let right = self.rule.right();
-        let reached = assigned_states(
-            self.alloc,
-            self.automaton,
-            self.states,
-            right,
-            vars,
-            assignment,
-        )?;
-        let open = outside(self.alloc, states, &reached)?;
+        let open = self.matcher.missed_states(right, vars, assignment, states)?;
         let room = (self.limit as usize).saturating_sub(self.pairs.len());
         if open.len() > room {
             return Ok(false);
@@ -135,20 +117,4 @@ fn add_pairs(
         })?;
     }
     Ok(())
-}
-
-/// The states that are no members of the set, in their order. The only error is running out of memory.
-fn outside(alloc: Global, states: &[u32], set: &StateSet) -> Result<Vec<u32>, AllocError>
-    requires { IsStrictlySortedBy nat_cmp states.now }
-    ensures members { IfOk result (λ others. (q : ℕ) →
-        Contains others.items q ↔ (Contains states.now q × (Contains set.now q → ⊥))) }
-    ensures order { IfOk result (λ others. IsStrictlySortedBy nat_cmp others.items) }
-{
-    let mut others = Vec::new(alloc);
-    for state in states {
-        if !set.contains(*state) {
-            others.push(*state)?;
-        }
-    }
-    Ok(others)
 }

@@ -9,9 +9,9 @@ ghost use Rattle.critical_pairs.specs.Opens.{Setting, AddsAll, ExceedsWith};
 
 use crate::openings::Openings;
 use ranked_terms::Seq;
-use state_match::{Tabled, each_group};
+use state_match::Matcher;
 use std::alloc::{AllocError, Global};
-use ta_core::{Automaton, StateSet, laws};
+use ta_core::{Automaton, laws};
 use trs_rules::{Pair, Rule};
 
 /// Why there is no list of open pairs.
@@ -49,54 +49,39 @@ pub fn open_pairs(
     ensures more { IsErrOf result PairError.More →
         (pairs : List Triple) × AreOpenPairs automaton.now rules.now pairs × (limit < length pairs) }
 {
-    // For the proof: open triples in ascending order are the list of open pairs, and there is one.
+    // For the proof: open triples in ascending order are the list of open pairs, and there is one; and the states ascend.
     laws::open_pairs_are_listed();
-    let states = StateSet::from_slice(alloc, automaton.states())?;
-    let tabled = Tabled::new(alloc, automaton)?;
+    let _ = automaton.states();
+    let matcher = Matcher::new(alloc, automaton, have_variables(rules))?;
     let mut pairs = Seq::new(alloc);
     for (number, rule) in rules.iter().enumerate() {
-        pairs = with_pairs_of(
-            alloc,
-            automaton,
-            &tabled,
-            &states,
-            number as u32,
-            rule,
-            limit,
-            pairs,
-        )?;
+        pairs = with_pairs_of(alloc, &matcher, number as u32, rule, limit, pairs)?;
     }
     Ok(pairs)
 }
 
-/// The pairs and, behind them, the open pairs of the rule with this number. The states are all states of the automaton. `More`
-/// exactly where that would be more than `limit`.
+/// Whether a rule has variables.
+fn have_variables(rules: &[Rule]) -> bool {
+    rules.iter().any(|rule| !rule.vars().is_empty())
+}
+
+/// The pairs and, behind them, the open pairs of the rule with this number. `More` exactly where that would be more than
+/// `limit`.
 fn with_pairs_of(
     alloc: Global,
-    automaton: &Automaton,
-    tabled: &Tabled,
-    states: &StateSet,
+    matcher: &Matcher,
     number: u32,
     rule: &Rule,
     limit: u32,
     pairs: Seq<Pair>,
 ) -> Result<Seq<Pair>, PairError>
-    requires tabled { tabled.now ≡ automaton.now }
-    requires states { states.now ≡ automaton.now.states }
     ensures all { IfOk result (λ all.
-        AddsAll (record { automaton = automaton.now; number = number; rule = rule.now }) limit pairs all) }
+        AddsAll (record { automaton = matcher.now; number = number; rule = rule.now }) limit pairs all) }
     ensures more { IsErrOf result PairError.More →
-        ExceedsWith (record { automaton = automaton.now; number = number; rule = rule.now }) limit pairs }
+        ExceedsWith (record { automaton = matcher.now; number = number; rule = rule.now }) limit pairs }
 {
-    let mut openings = Openings::new(alloc, tabled, states, number, rule, limit, pairs);
-    let on = each_group(
-        alloc,
-        automaton,
-        rule.left(),
-        rule.vars(),
-        false,
-        &mut openings,
-    )?;
+    let mut openings = Openings::new(alloc, matcher, number, rule, limit, pairs);
+    let on = matcher.each_group(rule.left(), rule.vars(), &mut openings)?;
     if !on {
         return Err(PairError::More);
     }

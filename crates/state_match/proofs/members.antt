@@ -4,3 +4,4 @@ pub mod RowFits
 pub mod MarkedSets
 pub mod Reaching
 pub mod JoinLaws
+pub mod Outside

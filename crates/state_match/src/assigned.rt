@@ -5,6 +5,7 @@ ghost use Rattle.ta_core.specs.Closure.{state_in};
 ghost use Rattle.ta_core.specs.Runs.{Runs};
 
 use crate::join::value;
+use crate::known::Known;
 use crate::tabled::Tabled;
 use ranked_terms::Pattern;
 use std::alloc::{AllocError, Global};
@@ -24,9 +25,27 @@ pub fn assigned_states(
     ensures { IfOk result (λ found. (q : ℕ) →
         Contains found q ↔ Runs automaton.now (assigned (state_in vars.now states.now) pattern.now) q) }
 {
+    let found = assigned_known(alloc, automaton, all, pattern, vars, states)?;
+    found.into_set(alloc)
+}
+
+/// As `assigned_states`, where the states need not be listed.
+pub(crate) fn assigned_known(
+    alloc: Global,
+    automaton: &Tabled,
+    all: &StateSet,
+    pattern: &Pattern,
+    vars: &[u32],
+    states: &[u32],
+) -> Result<Known, AllocError>
+    requires { all.now ≡ automaton.now.states }
+    ensures { IfOk result (λ found. (q : ℕ) →
+        Contains found q ↔ Runs automaton.now (assigned (state_in vars.now states.now) pattern.now) q) }
+{
     if let Some(found) = value(alloc, automaton, all, vars, states, pattern)? {
-        return found.into_set(alloc);
+        return Ok(found);
     }
     let config = assign(alloc, pattern, vars, states)?;
-    automaton.run_states(&config)
+    let listed = automaton.run_states(&config)?;
+    Ok(Known::listed(listed))
 }

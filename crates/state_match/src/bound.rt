@@ -6,6 +6,7 @@ use crate::assigned::assigned_states;
 use crate::join::narrow_whole;
 use crate::rows::no_states;
 use crate::tabled::Tabled;
+use crate::turned::Turned;
 use crate::walk::Narrowed;
 use ranked_terms::Pattern;
 use std::alloc::{AllocError, Global};
@@ -19,7 +20,7 @@ pub(crate) struct Bound<'a> {
     plain: bool,
     automaton: &'a Automaton,
     runs: &'a Tabled<'a>,
-    reversed: &'a Automaton,
+    reversed: &'a Turned,
     all: &'a StateSet,
     first: &'a StateSet,
     pattern: &'a Pattern,
@@ -60,7 +61,7 @@ impl<'a> Bound<'a> {
         plain: bool,
         automaton: &'a Automaton,
         runs: &'a Tabled<'a>,
-        reversed: &'a Automaton,
+        reversed: &'a Turned,
         all: &'a StateSet,
         first: &'a StateSet,
         pattern: &'a Pattern,

@@ -1,17 +1,19 @@
 //! Matches by assignment.
-ghost use Rattle.std.specs.Prelude.{◌⊎◌, ◌≤◌, [], length, IsTrue, not, IfOk, OnErr};
+ghost use Rattle.std.specs.Prelude.{◌≡◌, ◌⊎◌, ◌≤◌, [], length, false, IsTrue, not, IfOk, OnErr};
 ghost use Rattle.ranked_terms.specs.Limits.{max_variables};
 ghost use Rattle.state_match.specs.Matches.{MatchesAt};
+ghost use Rattle.state_match.specs.Rows.{IsReverse, RunsFor};
 ghost use Rattle.state_match.specs.Groups.{group_of, TookAll, TookFirst, TookUpTo};
 
 use crate::bound::Bound;
 use crate::join::first_wanted;
-use crate::plain::{reversed, runs_for};
-use crate::tabled::Tabled;
+use crate::matcher::Matcher;
+use crate::plain::runs_for;
+use crate::turned::Turned;
 use crate::walk::walk;
 use ranked_terms::Pattern;
 use std::alloc::{AllocError, Global};
-use ta_core::{Automaton, StateSet};
+use ta_core::Automaton;
 
 /// Takes assignments one by one, each with all its states at once.
 pub trait Groups {
@@ -61,13 +63,111 @@ pub fn each_group<V: Groups>(
         ⊎ TookUpTo V.took V.broke (MatchesAt plain automaton.now vars.now pattern.now) [] visitor.old visitor.new) }
 {
     let runs = runs_for(automaton, plain)?;
-    let reversed = reversed(alloc, &runs)?;
-    let all = StateSet::from_slice(alloc, runs.states())?;
-    let tabled = Tabled::new(alloc, &runs)?;
-    let first = first_wanted(alloc, &tabled, &reversed, &all, pattern)?;
+    let matcher = Matcher::new(alloc, &runs, !vars.is_empty())?;
+    each_in(plain, automaton, &matcher, pattern, vars, visitor)
+}
+
+impl<'a> Matcher<'a> {
+    /// As the function `each_group` by all runs, but what the pattern is matched by is at hand.
+    pub fn each_group<V: Groups>(
+        &self,
+        pattern: &Pattern,
+        vars: &[u32],
+        visitor: &mut V,
+    ) -> Result<bool, AllocError>
+        requires { length vars.now ≤ max_variables }
+        ensures whole { IfOk result (λ on. IsTrue on →
+            TookAll V.took (MatchesAt false self.now vars.now pattern.now) [] visitor.old visitor.new) }
+        ensures ended { IfOk result (λ on. IsTrue (not on) →
+            TookUpTo V.took V.ended (MatchesAt false self.now vars.now pattern.now) [] visitor.old visitor.new) }
+        ensures err { OnErr result (TookFirst V.took (MatchesAt false self.now vars.now pattern.now) [] visitor.old visitor.new
+            ⊎ TookUpTo V.took V.broke (MatchesAt false self.now vars.now pattern.now) [] visitor.old visitor.new) }
+    {
+        each_in(false, self.automaton(), self, pattern, vars, visitor)
+    }
+}
+
+/// As `each_group`, where the runs are looked up in an automaton that is ready.
+fn each_in<V: Groups>(
+    plain: bool,
+    automaton: &Automaton,
+    matcher: &Matcher,
+    pattern: &Pattern,
+    vars: &[u32],
+    visitor: &mut V,
+) -> Result<bool, AllocError>
+    requires short { length vars.now ≤ max_variables }
+    requires runs { RunsFor plain automaton.now matcher.now }
+    ensures whole { IfOk result (λ on. IsTrue on →
+        TookAll V.took (MatchesAt plain automaton.now vars.now pattern.now) [] visitor.old visitor.new) }
+    ensures ended { IfOk result (λ on. IsTrue (not on) →
+        TookUpTo V.took V.ended (MatchesAt plain automaton.now vars.now pattern.now) [] visitor.old visitor.new) }
+    ensures err { OnErr result (TookFirst V.took (MatchesAt plain automaton.now vars.now pattern.now) [] visitor.old visitor.new
+        ⊎ TookUpTo V.took V.broke (MatchesAt plain automaton.now vars.now pattern.now) [] visitor.old visitor.new) }
+{
+    if vars.is_empty() {
+        return take_only(plain, automaton, matcher, pattern, vars, visitor);
+    }
+    if let Some(turned) = matcher.turned() {
+        return each_by(plain, automaton, matcher, turned, pattern, vars, visitor);
+    }
+    let turned = Turned::of(matcher.alloc(), matcher.automaton())?;
+    each_by(plain, automaton, matcher, &turned, pattern, vars, visitor)
+}
+
+/// As `each_in`, where the automaton is turned round too.
+fn each_by<V: Groups>(
+    plain: bool,
+    automaton: &Automaton,
+    matcher: &Matcher,
+    turned: &Turned,
+    pattern: &Pattern,
+    vars: &[u32],
+    visitor: &mut V,
+) -> Result<bool, AllocError>
+    requires short { length vars.now ≤ max_variables }
+    requires runs { RunsFor plain automaton.now matcher.now }
+    requires reverse { IsReverse matcher.now turned.now }
+    ensures whole { IfOk result (λ on. IsTrue on →
+        TookAll V.took (MatchesAt plain automaton.now vars.now pattern.now) [] visitor.old visitor.new) }
+    ensures ended { IfOk result (λ on. IsTrue (not on) →
+        TookUpTo V.took V.ended (MatchesAt plain automaton.now vars.now pattern.now) [] visitor.old visitor.new) }
+    ensures err { OnErr result (TookFirst V.took (MatchesAt plain automaton.now vars.now pattern.now) [] visitor.old visitor.new
+        ⊎ TookUpTo V.took V.broke (MatchesAt plain automaton.now vars.now pattern.now) [] visitor.old visitor.new) }
+{
+    let alloc = matcher.alloc();
+    let tabled = matcher.tabled();
+    let all = matcher.all();
+    let first = first_wanted(alloc, tabled, turned, all, pattern)?;
     let start = Bound::new(
-        alloc, plain, automaton, &tabled, &reversed, &all, &first, pattern, vars,
+        alloc, plain, automaton, tabled, turned, all, &first, pattern, vars,
     );
     let mut assignment = Vec::new(alloc);
     walk(&start, vars.len(), &mut assignment, visitor)
+}
+
+/// As `each_in`, where there is no variable: there is one assignment at most.
+fn take_only<V: Groups>(
+    plain: bool,
+    automaton: &Automaton,
+    matcher: &Matcher,
+    pattern: &Pattern,
+    vars: &[u32],
+    visitor: &mut V,
+) -> Result<bool, AllocError>
+    requires none { length vars.now ≡ 0 }
+    requires runs { RunsFor plain automaton.now matcher.now }
+    ensures whole { IfOk result (λ on. IsTrue on →
+        TookAll V.took (MatchesAt plain automaton.now vars.now pattern.now) [] visitor.old visitor.new) }
+    ensures ended { IfOk result (λ on. IsTrue (not on) →
+        TookUpTo V.took V.ended (MatchesAt plain automaton.now vars.now pattern.now) [] visitor.old visitor.new) }
+    ensures err { OnErr result (TookFirst V.took (MatchesAt plain automaton.now vars.now pattern.now) [] visitor.old visitor.new
+        ⊎ TookUpTo V.took V.broke (MatchesAt plain automaton.now vars.now pattern.now) [] visitor.old visitor.new) }
+{
+    let found = matcher.assigned_states(pattern, vars, vars)?;
+    let states = found.as_slice();
+    if states.is_empty() {
+        return Ok(true);
+    }
+    visitor.take(vars, states)
 }

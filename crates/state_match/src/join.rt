@@ -10,9 +10,10 @@ use crate::known::Known;
 use crate::places::place_of;
 use crate::rows::{next_states, no_states};
 use crate::tabled::Tabled;
+use crate::turned::Turned;
 use ranked_terms::Pattern;
 use std::alloc::{AllocError, Global};
-use ta_core::{Automaton, StateSet};
+use ta_core::StateSet;
 
 /// The states to which the symbol runs where its arguments run to these sets. The only error is running out of memory.
 pub(crate) fn applied(
@@ -83,7 +84,7 @@ pub(crate) fn value(
 pub(crate) fn narrow(
     alloc: Global,
     automaton: &Tabled,
-    reversed: &Automaton,
+    reversed: &Turned,
     all: &StateSet,
     vars: &[u32],
     bound: &[u32],
@@ -117,7 +118,7 @@ pub(crate) fn narrow(
                         let column = column(
                             alloc, automaton, reversed, all, *sym, &sets, count, wanted,
                         )?;
-                        let back = reversed.closure_of(&column)?;
+                        let back = reversed.closed(column)?;
                         return narrow(alloc, automaton, reversed, all, vars, bound, &back, arg);
                     }
                 }
@@ -131,7 +132,7 @@ pub(crate) fn narrow(
 pub(crate) fn narrow_whole(
     alloc: Global,
     automaton: &Tabled,
-    reversed: &Automaton,
+    reversed: &Turned,
     all: &StateSet,
     vars: &[u32],
     bound: &[u32],
@@ -164,7 +165,7 @@ pub(crate) fn narrow_whole(
 pub(crate) fn first_wanted(
     alloc: Global,
     automaton: &Tabled,
-    reversed: &Automaton,
+    reversed: &Turned,
     all: &StateSet,
     pattern: &Pattern,
 ) -> Result<StateSet, AllocError>
@@ -178,7 +179,7 @@ pub(crate) fn first_wanted(
             let sets = Vec::new(alloc);
             let count = args.as_slice().len();
             let column = column(alloc, automaton, reversed, all, *sym, &sets, count, all)?;
-            reversed.closure_of(&column)
+            reversed.closed(column)
         }
     }
 }
@@ -189,7 +190,7 @@ pub(crate) fn first_wanted(
 fn column(
     alloc: Global,
     automaton: &Tabled,
-    reversed: &Automaton,
+    reversed: &Turned,
     all: &StateSet,
     sym: u32,
     sets: &[Known],

@@ -1,29 +1,27 @@
 //! An automaton with a table of what its epsilon transitions lead to.
-ghost use Rattle.std.specs.Prelude.{◌≡◌, ◌↔◌, ℕ, false, All, Contains, IfOk};
+ghost use Rattle.std.specs.Prelude.{◌≡◌, ◌↔◌, ℕ, All, Contains, IfOk};
 ghost use Rattle.std.specs.Ordering.{nat_cmp};
 ghost use Rattle.std.specs.List.Sorted.{IsStrictlySortedBy};
 ghost use Rattle.ta_core.specs.TreeAutomaton.{IsSound, trans_cmp};
 ghost use Rattle.ta_core.specs.Reached.{ReachedFrom};
 ghost use Rattle.ta_core.specs.Runs.{Runs};
 
+use crate::closures::Closures;
 use crate::known::Known;
 use ranked_terms::Config;
-use reach_rows::{Bits, Reach};
 use std::alloc::{AllocError, Global};
 use std::marker::Model;
 use ta_core::{Automaton, StateSet, Trans};
 
-// No table is made for at most so many epsilon transitions, and no list of a large set for so few transitions of a symbol.
+// No list of a large set is made for so few transitions of a symbol.
 const FEW: usize = 64;
 
 /// An automaton, with a table of what its epsilon transitions lead to where there are many of them. Contracts see the
 /// automaton.
 #[derive(Drop)]
 pub struct Tabled<'a> {
-    alloc: Global,
     automaton: &'a Automaton,
-    has_rows: bool,
-    reach: Reach,
+    closures: Closures,
 }
 
 impl<'a> Model for Tabled<'a> {
@@ -35,7 +33,7 @@ impl<'a> Model for Tabled<'a> {
 
     ghost view = { λ tabled. tabled.automaton.now };
 
-    ghost invariant = { λ tabled. tabled.has_rows ≡ true → LeadsOn tabled.automaton.now tabled.reach };
+    ghost invariant = { λ tabled. tabled.closures.has_rows ≡ true → LeadsOn tabled.automaton.now tabled.closures.reach };
 }
 
 impl<'a> Tabled<'a> {
@@ -43,23 +41,18 @@ impl<'a> Tabled<'a> {
     pub fn new(alloc: Global, automaton: &'a Automaton) -> Result<Tabled<'a>, AllocError>
         ensures { IfOk result (λ tabled. tabled ≡ automaton.now) }
     {
-        let eps = automaton.eps();
-        let has_rows = eps.len() > FEW;
-        let size = if has_rows {
-            automaton.next() as usize
-        } else {
-            0
-        };
-        let mut reach = Reach::new(alloc, size, 0)?;
-        if has_rows {
-            reach.fill(eps);
-        }
+        let closures = Closures::of(alloc, automaton)?;
         Ok(Tabled {
-            alloc,
             automaton,
-            has_rows,
-            reach,
+            closures,
         })
+    }
+
+    /// The automaton.
+    pub(crate) fn automaton(&self) -> &Automaton
+        ensures { result.now ≡ self.now }
+    {
+        self.automaton
     }
 
     /// The states in ascending order.
@@ -105,28 +98,6 @@ impl<'a> Tabled<'a> {
         requires { All (Contains self.now.states) set }
         ensures { IfOk result (λ known. (q : ℕ) → Contains known q ↔ ReachedFrom self.now set q) }
     {
-        if !leads_on(self.automaton, &set) {
-            return Ok(Known::listed(set));
-        }
-        if !self.has_rows {
-            let closed = self.automaton.closure_of(&set)?;
-            return Ok(Known::listed(closed));
-        }
-        let size = self.automaton.next() as usize;
-        let mut bits = Bits::new(self.alloc, size)?;
-        self.reach.join_rows(set.as_slice(), &mut bits);
-        Known::marked(self.alloc, bits, size)
+        self.closures.closed(self.automaton, set)
     }
-}
-
-/// Whether an epsilon transition may lead on from a member.
-fn leads_on(automaton: &Automaton, set: &StateSet) -> bool
-    ensures { result ≡ false → (p q : ℕ) → Contains set.now p → Contains automaton.now.eps (p, q) → ⊥ }
-{
-    for state in set.as_slice() {
-        if !automaton.eps_from(*state).is_empty() {
-            return true;
-        }
-    }
-    false
 }

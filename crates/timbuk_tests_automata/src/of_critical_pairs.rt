@@ -1,5 +1,5 @@
 //! Open pairs of the worked examples.
-use crate::examples::{EVEN_AND_ODD, GROWING, spec_of};
+use crate::examples::{DENSE, EVEN_AND_ODD, GROWING, spec_of};
 use critical_pairs::{PairError, open_pairs};
 use std::alloc::{AllocError, Global};
 use std::test::Fail;
@@ -30,6 +30,8 @@ const OPEN: &[(&str, u32, Option<&[u32]>)] = &[
     (GROWING, 1, Some(&[0, 0, 1])),
     (GROWING, 0, None),
     (EVEN_AND_ODD, 0, Some(&[])),
+    (DENSE, 5, Some(&[0, 0, 0, 1, 1, 3, 2, 1, 4, 2, 1, 4, 3])),
+    (DENSE, 4, None),
 ];
 
 /// The open pairs of a text.

@@ -2,7 +2,7 @@
 ghost use Rattle.std.specs.Prelude.{◌≤◌, IsTrue, length};
 ghost use Rattle.ranked_terms.specs.Terms.{variables_of};
 
-use crate::examples::{GROWING, spec_of};
+use crate::examples::{DENSE, GROWING, spec_of};
 use ranked_terms::{Pattern, Seq};
 use state_match::{Match, MatchError, Visit, each_match, matches, plain_matches};
 use std::alloc::{AllocError, Global};
@@ -124,9 +124,11 @@ fn all_are_walked(alloc: Global, spec: &Spec) -> Result<bool, Fail> {
 
 #[test]
 fn matches_of_each_kind_of_pattern(rt: HostRuntime) -> Result<(), Fail> {
-    let spec = spec_of(rt.alloc(), EACH_KIND)?;
-    assert_eq!(rt; spec.equations.len(), 4);
-    assert!(rt; all_are_walked(rt.alloc(), &spec)?);
+    for text in [EACH_KIND, DENSE] {
+        let spec = spec_of(rt.alloc(), text)?;
+        assert_eq!(rt; spec.equations.len(), 4);
+        assert!(rt; all_are_walked(rt.alloc(), &spec)?);
+    }
     Ok(())
 }
 

@@ -1,21 +1,11 @@
-use Rattle.std.proofs.Common.{ℕ, [], ◌↔◌, Contains, subst, List}
-use Rattle.std.proofs.lemmas.List.{append-nil}
+use Rattle.std.proofs.Common.{ℕ, ◌↔◌, Contains}
 use Rattle.std.proofs.lemmas.Result.{IfOk-weaker}
 use Rattle.ranked_terms.specs.Terms.{assigned}
 use Rattle.ta_core.specs.Closure.{state_in}
 use Rattle.ta_core.specs.Runs.{Runs}
-use Rattle.state_match.proofs.grouping.GroupLists.{IfSome-at_some}
-use Rattle.state_match.proofs.members.JoinLaws.{IsValue}
 use Rattle.state_match.proofs.assigned.assigned_states.Goals as goal
 
-pub returns-in-Some : goal.returns-in-Some
-returns-in-Some c =
-    let A = c.args.automaton.now in
-    let vars = c.args.vars.now in
-    let p = c.args.pattern.now in
-    let is = IfSome-at_some (IsValue A vars c.args.states.now p) c.in-Some.is c.in_ok-found.ensures in
-    IfOk-weaker c.into_set.result _ (λ found. (q : ℕ) → Contains found q ↔ Runs A (assigned (state_in vars c.args.states.now) p) q)
-    (λ found same q.
-    let runs = subst (λ (xs : List ℕ). Contains c.in-Some.found q ↔ Runs A (assigned (state_in vars xs) p) q) (append-nil c.args.states.now) (is [] q) in
-    (λ i. runs.0 ((same q).0 i), λ r. (same q).1 (runs.1 r)))
-    c.into_set.ensures
+pub returns : goal.returns
+returns c =
+    IfOk-weaker c.into_set.result _ (λ found. (q : ℕ) → Contains found q ↔ Runs c.args.automaton.now (assigned (state_in c.args.vars.now c.args.states.now) c.args.pattern.now) q)
+    (λ found same q. (λ i. (c.in_ok-found.ensures q).0 ((same q).0 i), λ r. (same q).1 ((c.in_ok-found.ensures q).1 r))) c.into_set.ensures

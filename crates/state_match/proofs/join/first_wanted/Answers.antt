@@ -12,8 +12,8 @@ returns-in-Var c =
 
 pub returns-in_ok-column-in-App : goal.returns-in_ok-column-in-App
 returns-in_ok-column-in-App c =
-    IfOk-weaker c.closure_of.result _ (λ first. IsFirst c.args.automaton.now c.args.all.now c.args.pattern.now first)
+    IfOk-weaker c.closed.result _ (λ first. IsFirst c.args.automaton.now c.args.all.now c.args.pattern.now first)
     (λ first exact. first_is c.args.automaton.now c.args.reversed.now c.requires.reverse c.args.pattern.now c.in-App.sym c.in-App.args (length c.as_slice-count.result.now) c.args.all.now c.in_ok-column-in-App.column first c.in-App.is
     (ap (λ (ps : List Pattern). length ps) c.as_slice-count.ensures)
     (subst (λ (qs : List (List ℕ)). (x : ℕ) → IsNextAt c.args.automaton.now.trans c.in-App.sym qs (length c.as_slice-count.result.now) c.args.all.now x → Contains c.in_ok-column-in-App.column x) (c.deref.ensures.value ∙ c.new-sets.ensures.items) c.in_ok-column-in-App.ensures.next)
-    exact) c.closure_of.ensures
+    exact) c.closed.ensures

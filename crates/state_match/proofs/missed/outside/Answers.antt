@@ -4,9 +4,9 @@ use Rattle.std.specs.Ordering.{nat_cmp}
 use Rattle.std.specs.List.Sorted.{IsStrictlySortedBy}
 use Rattle.std.proofs.lemmas.List.{take_all}
 use Rattle.std.proofs.lemmas.List.Kept.{IsStrictlySortedBy-filter}
-use Rattle.critical_pairs.proofs.Outside.{misses, one_more, kept, left_out, outside_members}
-use Rattle.critical_pairs.proofs.openings.outside.Goals as goal
-use Rattle.critical_pairs.proofs.openings.outside.Goals.{then-not-contains+in_ok-push, else-not-contains}
+use Rattle.state_match.proofs.members.Outside.{misses, one_more, kept, left_out, outside_members}
+use Rattle.state_match.proofs.missed.outside.Goals as goal
+use Rattle.state_match.proofs.missed.outside.Goals.{then-not-contains+in_ok-push, else-not-contains}
 
 pub loop-state-preserved : goal.loop-state-preserved
 loop-state-preserved c =
@@ -21,6 +21,6 @@ returns-clause-members c =
     outside_members c.args.set.now c.args.states.now c.loop-state.others.items (c.loop-state.invariant ∙ ap (filter (misses c.args.set.now)) (take_all c.loop-state.state-index c.args.states.now c.loop-state-test.false))
 
 pub returns-clause-order : goal.returns-clause-order
-returns-clause-order c =
+returns-clause-order c = λ sorted.
     subst (IsStrictlySortedBy nat_cmp) (sym (c.loop-state.invariant ∙ ap (filter (misses c.args.set.now)) (take_all c.loop-state.state-index c.args.states.now c.loop-state-test.false)))
-    (IsStrictlySortedBy-filter nat_cmp (misses c.args.set.now) c.args.states.now c.requires)
+    (IsStrictlySortedBy-filter nat_cmp (misses c.args.set.now) c.args.states.now sorted)

@@ -2,7 +2,7 @@ use Rattle.std.proofs.Common.{◌≡◌, length, take, get_or, Contains, sym, su
 use Rattle.std.proofs.lemmas.List.{take_all, take_more}
 use Rattle.std.proofs.lemmas.List.Elements.{Contains-push_cases}
 use Rattle.std.proofs.lemmas.Map.Views.{exact_unsigned_eq}
-use Rattle.state_match.proofs.tabled.leads_on.Goals as goal
+use Rattle.state_match.proofs.closures.leads_on.Goals as goal
 
 pub loop-state-preserved : goal.loop-state-preserved
 loop-state-preserved c p q i j =

@@ -63,3 +63,7 @@ module _ (set : List ℕ) where
 
   pub outside_members : (states others : List ℕ) → others ≡ filter (misses set) states → (q : ℕ) → Contains others q ↔ (Contains states q × (Contains set q → ⊥))
   outside_members states others e q = subst (λ xs. Contains xs q ↔ (Contains states q × (Contains set q → ⊥))) (sym e) (filtered states q)
+
+-- by what the members of the set have
+pub missed_by : {A B C D : Type 0} → A ↔ (B × (C → ⊥)) → C ↔ D → A ↔ (B × (D → ⊥))
+missed_by a s = (λ x. let h = a.0 x in (h.0, λ d. h.1 (s.1 d)), λ h. a.1 (h.0, λ x. h.1 (s.0 x)))
