@@ -16,7 +16,8 @@ pub fn usage() -> &'static str
 
 /// The status and the line for an automaton with its map. The only error is running out of memory.
 pub(crate) fn automaton_line(alloc: Global, answer: &Answer) -> Result<(Status, String), AllocError>
-    ensures { IfOk result (λ a. (a.0 ≡ texts.automaton_status answer.now) × (string_bytes a.1 ≡ texts.automaton_line answer.now)) }
+    ensures { IfOk result (λ a.
+        (a.0 ≡ texts.automaton_status answer.now) × (string_bytes a.1 ≡ texts.automaton_line answer.now)) }
 {
     let line = match answer {
         Answer::Yes => return Ok((

@@ -1,5 +1,6 @@
 //! The words of `complete`.
-ghost use Rattle.std.specs.Prelude.{◌≡◌, ◌⊎◌, ℕ, List, None, Some, IfOk, IsErrOf, MatchResult, map, drop, string_bytes, option_map};
+ghost use Rattle.std.specs.Prelude.{◌≡◌, ◌⊎◌, ℕ, List, None, Some, IfOk, IsErrOf, MatchResult};
+ghost use Rattle.std.specs.Prelude.{map, drop, string_bytes, option_map};
 ghost use Rattle.clap.specs.Words.{app_of, found_of, kind_of, first_value};
 ghost use Rattle.clap.specs.Walk.{first_of, rows_of};
 ghost use Rattle.command_words.specs.Commands.{complete_app, complete_line, option_rule, word_rule, bare_app, app_of_words};

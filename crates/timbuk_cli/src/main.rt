@@ -8,15 +8,15 @@
 ghost use Rattle.std.specs.Prelude.{◌≡◌, ◌≢◌, drop};
 ghost use Rattle.std.specs.IoError.{error_kind};
 ghost use Rattle.std.specs.Process.{exit_status};
-ghost use Rattle.top_call.specs.Codes.{code_of};
+ghost use Rattle.calls.specs.Codes.{code_of};
 
+use calls::status::Status;
 use std::env;
 use std::io::{Error, ErrorKind};
 use std::process::ExitCode;
 use std::rt::Env;
 use tim_io::{FileShelf, StdSink};
 use top_call::run::run;
-use top_call::status::Status;
 
 /// The words after the program's name, which is the first of all where there is any.
 fn words_after_name(mut all: Vec<String>) -> Vec<String>

@@ -1,1 +1,5 @@
-pub mod Verdicts
+pub mod Statuses
+pub mod Naming
+pub mod Once
+pub mod Shown
+pub mod Saying

@@ -1,4 +1,5 @@
-pub mod Words
-pub mod FaultText
-pub mod Output
-pub mod Codes
+pub mod Calls
+pub mod Writing
+pub mod Named
+pub mod Headline
+pub mod Laws

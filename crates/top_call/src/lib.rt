@@ -4,8 +4,7 @@
 //! output and calls it; other crates call it over files and outputs in memory.
 #![tactic(auto)]
 
-mod fault_line;
+mod commands;
 pub mod laws;
+mod output;
 pub mod run;
-pub mod status;
-pub mod words;

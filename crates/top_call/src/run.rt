@@ -1,158 +1,93 @@
 //! The top call.
-ghost use Rattle.std.specs.Prelude.{◌≡◌, ◌≢◌, ℕ, ◌+◌, List, ◌<◌, ◌≤◌, ◌^◌, ◌∷◌, ◌++◌, Some};
-ghost use Rattle.std.specs.Prelude.{IsTrue, not, IfOk, OnErr, codes, length, map, string_bytes};
+ghost use Rattle.std.specs.Prelude.{◌≡◌, ℕ, List, map, string_bytes};
 ghost use Rattle.tim_io.specs.Causes.{Rose};
-ghost use Rattle.tim_io.specs.Shelves.{OthersStay};
-ghost use Rattle.tim_io.specs.Whole.{TookAtMost};
-ghost use Rattle.top_call.specs.Words.{file_of};
-ghost use Rattle.top_call.specs.Output.{IsProved, Leaves, limit, line, Decides, Judges, Says, Ran, Answers};
+ghost use Rattle.calls.specs.Files.{told_by};
+ghost use Rattle.top_call.specs.Calls.{IsFileOf};
+ghost use Rattle.top_call.specs.Headline.{ShowsUnreachable, ShowsReachable};
+ghost use Rattle.top_call.specs.Named.{Named, AnswersNamed};
+ghost use Rattle.top_call.specs.Writing.{Ran};
 
-use crate::fault_line::fault_line;
-use crate::status::Status;
-use crate::words::file_word;
-use completion::laws::ends_are_one;
-use completion::{StageEnd, stages};
-use std::alloc::{AllocError, Global};
-use ta_core::laws::{closed_automata_accept_what_is_reached, contained_automata_keep_runs};
-use ta_core::{Options, Spec};
-use tim_io::{ReadError, Shelf, Sink, read_all, write_all};
-use timbuk_reader::{SpecError, no_text_has_two_specs, read_spec};
-use trs_rules::each_is_rule;
-
-/// The largest number of bytes of a specification.
-const MAX_SPEC: usize = 1048576;
-
-/// The line for invalid arguments.
-const USAGE: &str =
-    "usage: timbuk complete FILE [OPTIONS] | check SPEC CERT | ta OP FILE [--limit N] | browse SPEC SCRIPT | sample N\n";
-
-/// Whether completion with the default options ends at a closed stage; then the stage shows that no term that is reachable is
-/// forbidden. The only error is running out of memory.
-fn is_proved(alloc: Global, spec: &Spec) -> Result<bool, AllocError>
-    requires { length spec.now.rules < 2 ^ 32 }
-    ensures yes { IfOk result (λ yes. IsTrue yes → IsProved spec.now) }
-    ensures no { IfOk result (λ yes. IsTrue (not yes) → Leaves spec.now) }
-{
-    // For the proof: a contained language is accepted, a closed automaton accepts what is reached, and automata are sound.
-    contained_automata_keep_runs();
-    closed_automata_accept_what_is_reached();
-    each_is_rule(spec.rules.as_slice());
-    let (core, end) = stages(alloc, spec, Options::default())?;
-    let _ = core.automaton().states();
-    match end {
-        StageEnd::Closed(_number) => Ok(true),
-        _ => Ok(false),
-    }
-}
-
-/// The verdict on a specification, with its line: `Unreachable` exactly where completion with the default options ends at a
-/// closed stage, and else `Undecided`. The only error is running out of memory.
-fn verdict(alloc: Global, spec: &Spec) -> Result<(Status, String), AllocError>
-    requires { length spec.now.rules < 2 ^ 32 }
-    ensures { IfOk result (λ a. Decides spec.now (string_bytes a.1) a.0) }
-{
-    if is_proved(alloc, spec)? {
-        let line = String::from_str(alloc, "Verdict unreachable\n")?;
-        Ok((Status::Unreachable, line))
-    } else {
-        let line = String::from_str(alloc, "Verdict undecided\n")?;
-        Ok((Status::Undecided, line))
-    }
-}
-
-/// What is said of the bytes of a file: the verdict on the specification that they spell, or their first fault. The only
-/// error is running out of memory.
-fn judge(alloc: Global, bytes: &[u8]) -> Result<(Status, String), AllocError>
-    requires { length bytes.now ≤ limit }
-    ensures { IfOk result (λ a. Judges bytes.now (string_bytes a.1) a.0) }
-{
-    match read_spec(alloc, bytes) {
-        Ok(spec) => verdict(alloc, &spec),
-        Err(SpecError::Fault(fault)) => Ok((Status::BadSpec, fault_line(alloc, fault)?)),
-        Err(SpecError::Memory) => Err(AllocError),
-    }
-}
-
-/// A refusal of a file, by its status and its line. The only error is running out of memory.
-fn refusal(
-    alloc: Global,
-    status: Status,
-    what: &str,
-    name: &str,
-) -> Result<(Status, String), AllocError>
-    ensures { IfOk result (λ a. (a.0 ≡ status) × (string_bytes a.1 ≡ line (what.now ++ 32 ∷ name.now))) }
-{
-    Ok((status, format!(in alloc; "{what} {name}\n")?))
-}
-
-/// What is said of a file: a status and its text. The only error is running out of memory.
-fn answer<F: Shelf>(
-    alloc: Global,
-    name: &str,
-    shelf: &mut F,
-) -> Result<(Status, String), AllocError>
-    ensures says { IfOk result (λ a.
-        Says name.now (F.left shelf.old name.now) (F.left shelf.new name.now)
-        (Rose (F.faults shelf.old name.now) (F.faults shelf.new name.now)) (string_bytes a.1) a.0) }
-    ensures took { OnErr result (TookAtMost (limit + 1) (F.left shelf.old name.now) (F.left shelf.new name.now)) }
-    ensures others { OthersStay (F.left shelf.old) (F.left shelf.new) name.now }
-    ensures other_faults { OthersStay (F.faults shelf.old) (F.faults shelf.new) name.now }
-{
-    let bytes = match read_all(alloc, shelf, name, MAX_SPEC) {
-        Ok(bytes) => bytes,
-        Err(ReadError::Fault) => return refusal(alloc, Status::ReadFault, "Cannot read", name),
-        Err(ReadError::TooLong) => return refusal(alloc, Status::TooLong, "Too long", name),
-        Err(ReadError::Memory) => return Err(AllocError),
-    };
-    judge(alloc, bytes.as_slice())
-}
+use crate::commands::perform;
+use crate::output::written;
+use calls::status::Status;
+use calls::{Ending, usage};
+use cert_text::laws::certificates_have_different_texts;
+use command_words::{WordsError, read_command};
+use std::alloc::Global;
+use tim_io::{Shelf, Sink};
+use timbuk_reader::{no_text_has_two_specs, spelled_names_differ};
+use verdicts::laws::verdicts_are_one;
 
 /// Does what the words say, over the files of the shelf, and writes what there is to say to the sink. The words are those
-/// after the program's name.
+/// after the program's name: `complete FILE` with its options, or `check SPEC CERT`.
 ///
-/// The words are exactly `complete FILE`. `Unreachable` comes exactly where the file is a specification of which completion
-/// with the default options ends at a closed stage, and then no term that is reachable, in whatever number of steps, is
-/// forbidden. `Undecided` comes exactly where something else ends completion of the file's specification: a common term with
-/// the forbidden automaton, no round left, too many open pairs or too many states. `BadWords` comes
-/// exactly where the arguments are invalid, `TooLong` exactly where the file has more than 1,048,576 bytes, `BadSpec`
-/// exactly where its bytes are no specification, `ReadFault` only where the shelf failed at the file, `WriteFault` only
-/// where the sink failed, and `Memory` where memory ran out once the words were understood.
+/// `complete` reads the file whole and writes a text, whatever the verdict. `Unreachable` comes exactly where the search
+/// finds no derivation and completion ends at a closed stage, both within the limits; the text is a certificate that spells
+/// this stage's automaton, which contains the initial one, is closed under the rules and misses the forbidden language, and
+/// so no term that is reachable, in whatever number of steps, is forbidden. `Reachable` comes exactly where the search
+/// finds a derivation of a forbidden term within the limits; the text is a certificate that spells one of the least number
+/// of steps among those, and it replays. `Undecided` comes exactly where neither is there; the text says why. `check`
+/// accepts the text of the first two beside the same specification, where it isn't longer than `check` reads.
 ///
-/// One line is written: `Verdict unreachable`, `Verdict undecided`, how the program is called, `Too long NAME`,
-/// `Bad specification line L column C: KIND` with the place and the kind of the first fault of the text, or `Cannot read NAME`.
-/// At `WriteFault` a part of such a line was written from its front, and at `Memory` nothing is.
+/// `check` reads both files whole, the specification first and the certificate once that is understood. `Accepted` comes
+/// exactly where the second is a certificate that shows what it claims, `Rejected` exactly where it is one that doesn't; the
+/// line written names the first part that fails.
 ///
-/// Nothing is left of a file on which the answer rests; of one that is too long, one byte more than the limit was taken.
+/// `BadWords` comes exactly where the words are no command line, `TooLong` exactly where a file has more bytes than it may
+/// have (1,048,576 of a specification, 67,108,864 of a certificate), `BadSpec` and `BadCert` exactly where the bytes of a
+/// file are no specification or no certificate, with the place and the kind of the first fault. In place of these may come:
+/// `ReadFault` where the shelf failed at a file, `WriteFault` where the sink failed, and `Memory` at words whose first one
+/// names a command; a body that always answers `Memory` isn't shut out.
+///
+/// At `WriteFault` a part of the text was written from its front, and at `Memory` nothing is. Nothing is left of a file on
+/// which the answer rests; of one that is too long, one byte more than the limit was taken. What the shelf tells of other
+/// names stays.
 pub fn run<F: Shelf, K: Sink>(alloc: Global, words: &[String], shelf: &mut F, out: &mut K) -> Status
-    ensures ran { Ran (map string_bytes words.now) (F.left shelf.old) (F.left shelf.new)
-        (λ name. Rose (F.faults shelf.old name) (F.faults shelf.new name))
-        (Rose (K.faults out.old) (K.faults out.new))
+    ensures ran { Ran (map string_bytes words.now) (told_by (F.left shelf.old) (F.faults shelf.old))
+        (told_by (F.left shelf.new) (F.faults shelf.new)) (Rose (K.faults out.old) (K.faults out.new))
         (K.written out.old) (K.written out.new) result }
 
-    // Where no count rose, the words and the contents of the file name the answer.
-    ensures complete { ((name : List ℕ) → file_of (map string_bytes words.now) ≡ Some name →
+    // What the bytes written show.
+    ensures unreachable { result ≡ Status.Unreachable →
+        ShowsUnreachable (map string_bytes words.now) (told_by (F.left shelf.old) (F.faults shelf.old))
+        (told_by (F.left shelf.new) (F.faults shelf.new)) (K.written out.old) (K.written out.new) }
+    ensures reachable { result ≡ Status.Reachable →
+        ShowsReachable (map string_bytes words.now) (told_by (F.left shelf.old) (F.faults shelf.old))
+        (told_by (F.left shelf.new) (F.faults shelf.new)) (K.written out.old) (K.written out.new) }
+
+    // Where no count rose, the words and the contents of the files name the answer and its text.
+    ensures complete { ((name : List ℕ) → IsFileOf (map string_bytes words.now) name →
         ¬ Rose (F.faults shelf.old name) (F.faults shelf.new name))
         → ¬ Rose (K.faults out.old) (K.faults out.new)
-        → Answers (map string_bytes words.now) (F.left shelf.old) result }
+        → (text : List ℕ) (status : Status) → Named (map string_bytes words.now) (F.left shelf.old) text status
+        → AnswersNamed (map string_bytes words.now) (F.left shelf.old) (K.written out.old) (K.written out.new) status result }
 
-    // What the shelf reports of names that are no file word stays.
-    ensures others { (name : List ℕ) → file_of (map string_bytes words.now) ≢ Some name →
+    // What is told of names that are no file of the words stays.
+    ensures others { (name : List ℕ) → ¬ IsFileOf (map string_bytes words.now) name →
         (F.left shelf.new name ≡ F.left shelf.old name) × (F.faults shelf.new name ≡ F.faults shelf.old name) }
 {
-    // For the proof: the bytes of a file name one answer.
+    // For the proof: a text has one specification, and beside it one certificate, and a specification one verdict.
     no_text_has_two_specs();
-    ends_are_one();
-    let Some(name) = file_word(words) else {
-        return match write_all(out, USAGE.as_bytes()) {
-            Ok(()) => Status::BadWords,
-            Err(_) => Status::WriteFault,
-        };
-    };
-    let Ok((status, text)) = answer(alloc, name, shelf) else {
-        return Status::Memory;
-    };
-    match write_all(out, text.as_bytes()) {
-        Ok(()) => status,
-        Err(_) => Status::WriteFault,
+    spelled_names_differ();
+    certificates_have_different_texts();
+    verdicts_are_one();
+    respond(alloc, words, shelf, out)
+}
+
+/// Does what the words say, and writes what there is to say.
+fn respond<F: Shelf, K: Sink>(alloc: Global, words: &[String], shelf: &mut F, out: &mut K) -> Status
+    ensures ran { Ran (map string_bytes words.now) (told_by (F.left shelf.old) (F.faults shelf.old))
+        (told_by (F.left shelf.new) (F.faults shelf.new)) (Rose (K.faults out.old) (K.faults out.new))
+        (K.written out.old) (K.written out.new) result }
+    ensures others { (name : List ℕ) → ¬ IsFileOf (map string_bytes words.now) name →
+        (F.left shelf.new name ≡ F.left shelf.old name) × (F.faults shelf.new name ≡ F.faults shelf.old name) }
+{
+    match read_command(alloc, words) {
+        Ok(command) => match perform(alloc, command, shelf) {
+            Ending::Told(status, text) => written(out, status, text.as_slice()),
+            Ending::Memory => Status::Memory,
+        },
+        Err(WordsError::BadWords) => written(out, Status::BadWords, usage().as_bytes()),
+        Err(WordsError::Memory) => Status::Memory,
     }
 }

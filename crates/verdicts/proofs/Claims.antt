@@ -22,7 +22,6 @@ use Rattle.cert_text.specs.Words.{text_of}
 use Rattle.cert_text.specs.Lines as line
 use Rattle.cert_text.specs.Lines.{Line, words_of}
 use Rattle.cert_text.specs.Certificates.{claim_lines, path_lines, IsClaim}
-use Rattle.cert_text.specs.declared.certificate.Certificate.TheVariants as certificate
 use Rattle.cert_text.specs.declared.outcome.Mark.{Mark}
 use Rattle.cert_text.specs.declared.outcome.Reason.{Reason}
 use Rattle.cert_text.specs.declared.outcome.Outcome.TheVariants as outcome
@@ -47,7 +46,6 @@ derived laws spec options is are few d answer =
       verdict = Verdict.reachable answer;
       shows = f.replays;
       checkable = record {
-        certificate = certificate.Reachable d;
         reads = record { told = ap text_of (sym (around (path_lines spec.signature d))); within = path laws spec options d f is are few };
         shown = f.replays;
       };
@@ -87,7 +85,6 @@ module _ (keeps : ContainedKeepsAccepted) (reached : ClosedAcceptsReached) (spec
       safe = safe;
     };
     checkable = record {
-      certificate = certificate.Unreachable i precise A cut;
       reads = record { told = ap text_of (sym (around (claim_lines spec.signature i precise A cut))); within = claim };
       shown = accepted;
     };

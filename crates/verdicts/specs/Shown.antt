@@ -34,14 +34,13 @@ abbrev pub IsShown : Spec → Certificate → Type 0
 IsShown spec (certificate.Unreachable i precise A h) = IsAccepted spec A h
 IsShown spec (certificate.Reachable d) = Replays spec d
 
--- the text of the outcome is a certificate whose claim holds
-pub record IsCertified (spec : Spec) (o : Outcome) : Type 0 where
-  pub certificate : Certificate
-  pub reads : CertificateReads spec (certificate_text spec o) certificate
-  pub shown : IsShown spec certificate
+-- the text of the outcome is this certificate, whose claim holds
+pub record IsCertified (spec : Spec) (o : Outcome) (c : Certificate) : Type 0 where
+  pub reads : CertificateReads spec (certificate_text spec o) c
+  pub shown : IsShown spec c
 
--- so is the text of each outcome that settles something
+-- so the text of each outcome that settles something is the certificate of what it settles
 abbrev pub IsCheckable : Spec → Outcome → Type 0
-IsCheckable spec (outcome.Unreachable i precise A h) = IsCertified spec (outcome.Unreachable i precise A h)
-IsCheckable spec (outcome.Reachable d) = IsCertified spec (outcome.Reachable d)
+IsCheckable spec (outcome.Unreachable i precise A h) = IsCertified spec (outcome.Unreachable i precise A h) (certificate.Unreachable i precise A h)
+IsCheckable spec (outcome.Reachable d) = IsCertified spec (outcome.Reachable d) (certificate.Reachable d)
 IsCheckable spec (outcome.Undecided why search) = Unit {0}
