@@ -10,11 +10,11 @@ import sys
 import tomllib
 
 CRATE = pathlib.Path(__file__).resolve().parent.parent / 'crates' / 'timbuk_cases'
-TABLES = ['examples', 'verdicts', 'faults', 'limits', 'words', 'devices']
+TABLES = ['rows', 'examples', 'verdicts', 'complete', 'check', 'faults', 'limits', 'words', 'devices']
 # The exit status of each answer, as docs/PROMISES.md has them.
 CODES = {
-    'Unreachable': 0, 'Undecided': 2, 'BadWords': 64, 'BadSpec': 65, 'TooLong': 67, 'ReadFault': 70, 'WriteFault': 71,
-    'Memory': 75,
+    'Unreachable': 0, 'Reachable': 1, 'Undecided': 2, 'Accepted': 0, 'Rejected': 3, 'BadWords': 64, 'BadSpec': 65,
+    'BadCert': 66, 'TooLong': 67, 'ReadFault': 70, 'WriteFault': 71, 'Memory': 75,
 }
 
 

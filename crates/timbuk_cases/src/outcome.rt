@@ -2,11 +2,11 @@
 use crate::devices::{shelf_of, sink_of};
 use crate::table::Case;
 use anyhow::Error;
+use calls::status::Status;
 use std::alloc::{AllocError, Global};
 use std::str;
 use tim_io::{MemShelf, MemSink};
 use top_call::run::run;
-use top_call::status::Status;
 
 /// The words of the case: `complete F` where it names none.
 fn words_of(alloc: Global, case: &Case) -> Result<Vec<String>, AllocError> {
