@@ -333,7 +333,7 @@ FAMILIES = [
 def one_run(program, folder, words):
     """The processor seconds of one run on the file F of the folder, the most memory in MB, and the answer in one line."""
     with subprocess.Popen([program, "complete", "F", *words], cwd=folder, stdout=subprocess.PIPE) as run:
-        answer = " | ".join(run.stdout.read().decode().split("\n")[:5]).strip(" |")
+        answer = " | ".join(run.stdout.read().decode().split("\n")[1:3]).strip(" |")[:60]
         _, status, used = os.wait4(run.pid, 0)
         run.returncode = os.WEXITSTATUS(status)
     return used.ru_utime + used.ru_stime, used.ru_maxrss / 1024, answer

@@ -62,7 +62,7 @@ def definitions():
         named.update((name, int(number)) for name, number in re.findall(r'^(\w+) = (\d+)$', path.read_text(), re.M))
     rows = re.findall(r'^most limit\.(\w+) = (\w+)$', (CRATES / 'spec_text/specs/Limits.antt').read_text(), re.M)
     spelled = dict(re.findall(r'^limit_name limit\.(\w+) = codes "([\w-]+)"$',
-                              (CRATES / 'top_call/specs/FaultText.antt').read_text(), re.M))
+                              (CRATES / 'calls/specs/FaultText.antt').read_text(), re.M))
     return [(spelled[limit], int(number) if number.isdigit() else named[number]) for limit, number in rows]
 
 
