@@ -2,18 +2,18 @@
 ghost use Rattle.std.specs.Prelude.{◌≡◌, ◌⊎◌, ◌≤◌, [], length, false, IsTrue, not, IfOk, OnErr};
 ghost use Rattle.ranked_terms.specs.Limits.{max_variables};
 ghost use Rattle.state_match.specs.Matches.{MatchesAt};
-ghost use Rattle.state_match.specs.Rows.{IsReverse, RunsFor};
+ghost use Rattle.state_match.specs.Rows.{IsFirst, IsReverse, RunsFor};
 ghost use Rattle.state_match.specs.Groups.{group_of, TookAll, TookFirst, TookUpTo};
 
 use crate::bound::Bound;
-use crate::join::first_wanted;
+use crate::join::{begins_with_few, first_wanted};
 use crate::matcher::Matcher;
 use crate::plain::runs_for;
 use crate::turned::Turned;
 use crate::walk::walk;
 use ranked_terms::Pattern;
 use std::alloc::{AllocError, Global};
-use ta_core::Automaton;
+use ta_core::{Automaton, StateSet};
 
 /// Takes assignments one by one, each with all its states at once.
 pub trait Groups {
@@ -135,12 +135,48 @@ fn each_by<V: Groups>(
     ensures err { OnErr result (TookFirst V.took (MatchesAt plain automaton.now vars.now pattern.now) [] visitor.old visitor.new
         ⊎ TookUpTo V.took V.broke (MatchesAt plain automaton.now vars.now pattern.now) [] visitor.old visitor.new) }
 {
+    let tabled = matcher.tabled();
+    let all = matcher.all();
+    // For the proof: what runs lead to is a state.
+    let _ = tabled.states();
+    if begins_with_few(tabled, pattern) {
+        return each_from(
+            plain, automaton, matcher, turned, all, pattern, vars, visitor,
+        );
+    }
+    let first = first_wanted(matcher.alloc(), tabled, turned, all, pattern)?;
+    each_from(
+        plain, automaton, matcher, turned, &first, pattern, vars, visitor,
+    )
+}
+
+/// As `each_by`, where these states are wanted of the pattern's first argument.
+fn each_from<V: Groups>(
+    plain: bool,
+    automaton: &Automaton,
+    matcher: &Matcher,
+    turned: &Turned,
+    first: &StateSet,
+    pattern: &Pattern,
+    vars: &[u32],
+    visitor: &mut V,
+) -> Result<bool, AllocError>
+    requires short { length vars.now ≤ max_variables }
+    requires runs { RunsFor plain automaton.now matcher.now }
+    requires reverse { IsReverse matcher.now turned.now }
+    requires first { IsFirst matcher.now matcher.now.states pattern.now first.now }
+    ensures whole { IfOk result (λ on. IsTrue on →
+        TookAll V.took (MatchesAt plain automaton.now vars.now pattern.now) [] visitor.old visitor.new) }
+    ensures ended { IfOk result (λ on. IsTrue (not on) →
+        TookUpTo V.took V.ended (MatchesAt plain automaton.now vars.now pattern.now) [] visitor.old visitor.new) }
+    ensures err { OnErr result (TookFirst V.took (MatchesAt plain automaton.now vars.now pattern.now) [] visitor.old visitor.new
+        ⊎ TookUpTo V.took V.broke (MatchesAt plain automaton.now vars.now pattern.now) [] visitor.old visitor.new) }
+{
     let alloc = matcher.alloc();
     let tabled = matcher.tabled();
     let all = matcher.all();
-    let first = first_wanted(alloc, tabled, turned, all, pattern)?;
     let start = Bound::new(
-        alloc, plain, automaton, tabled, turned, all, &first, pattern, vars,
+        alloc, plain, automaton, tabled, turned, all, first, pattern, vars,
     );
     let mut assignment = Vec::new(alloc);
     walk(&start, vars.len(), &mut assignment, visitor)

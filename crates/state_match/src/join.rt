@@ -15,6 +15,9 @@ use ranked_terms::Pattern;
 use std::alloc::{AllocError, Global};
 use ta_core::StateSet;
 
+// A symbol has few transitions where another one has so many times as many.
+const TIMES: usize = 8;
+
 /// The states to which the symbol runs where its arguments run to these sets. The only error is running out of memory.
 pub(crate) fn applied(
     alloc: Global,
@@ -158,6 +161,18 @@ pub(crate) fn narrow_whole(
         }
     }
     narrow(alloc, automaton, reversed, all, vars, bound, all, pattern)
+}
+
+/// Whether the symbol of the pattern's first argument has few transitions beside the pattern's own symbol: then it takes less time
+/// to go over them all than to find what is wanted of the first argument.
+pub(crate) fn begins_with_few(automaton: &Tabled, pattern: &Pattern) -> bool {
+    let Pattern::App(sym, args) = pattern else {
+        return false;
+    };
+    let Some(Pattern::App(inner, _)) = args.as_slice().first() else {
+        return false;
+    };
+    automaton.count_with(*inner) < automaton.count_with(*sym) / TIMES
 }
 
 /// What is wanted of the first argument of the pattern where all states are wanted of the pattern, whatever its variables stand

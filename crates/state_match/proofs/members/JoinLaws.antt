@@ -15,7 +15,7 @@ use Rattle.ta_core.specs.Runs.{Runs, RunsAll, Reaches}
 use Rattle.ta_core.specs.declared.trans.Trans.{Trans}
 use Rattle.ta_core.specs.Reached.{ReachedFrom, HasTransInto, EntersAndReaches}
 use Rattle.list_laws.proofs.Members.{all_from_members}
-use Rattle.ta_core.specs.lemmas.RunsLaws.{run_of_app, run_of_state, run_of_plain, plain_of_run}
+use Rattle.ta_core.specs.lemmas.RunsLaws.{run_ends, run_of_app, run_of_state, run_of_plain, plain_of_run}
 use Rattle.ta_core.specs.lemmas.RunStates.{AreExact, exact_more, runs_of_app, entered_and_reached}
 use Rattle.list_laws.proofs.Zips.{zip_length}
 use Rattle.state_match.specs.Rows.{FitsFrom, IsNextAt, IsClosedBack, IsFirst, IsReverse, turn, turn_row, RunsFor}
@@ -278,6 +278,21 @@ first_of_variable A p v wanted first is e = record {
   closed = λ x y r c. absurd (none y (subst (λ xs. Contains xs y) e c));
   has = λ f args other closed c more q n want r. let same : Var v ≡ App' f args = sym is ∙ other in cc;
 }
+
+-- whatever leads to a state is one
+pub states_closed : {A : TreeAutomaton} → IsSound A → {p q : ℕ} → Reaches A p q → Contains A.states q → Contains A.states p
+states_closed s Reaches.here c = c
+states_closed {A = A} s (Reaches.on {q = q} {r = r} a e) c = states_closed s a (All-contains (IsEpsOf A.states) A.eps (q, r) s.eps e).from
+
+-- whatever the pattern, its first argument runs to a state
+pub all_first : (A : TreeAutomaton) → IsSound A → (p : Pattern) (first : List ℕ) → first ≡ A.states → IsFirst A A.states p first
+all_first A sound p first e = subst (IsFirst A A.states p) (sym e) (record {
+  closed = λ x y r c. states_closed sound r c;
+  has = λ f args is closed c more q n want r.
+      let a = run_of_app f (c ∷ more) q r in
+      let h = split A [] c more [] tt a.args in
+      (h.state, run_ends sound h.runs, h.runs);
+})
 
 -- ---- automata that runs are looked up in
 
