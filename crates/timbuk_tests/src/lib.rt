@@ -23,8 +23,6 @@ mod of_timbuk_grammar;
 #[cfg(test)]
 mod of_timbuk_lex;
 #[cfg(test)]
-mod of_top_call;
-#[cfg(test)]
 mod of_trs_rules;
 #[cfg(test)]
 mod texts;
