@@ -7,7 +7,8 @@ ghost use Rattle.std.specs.Prelude.{◌≡◌, ◌≤◌, ◌<◌, ◌∷◌, []
 ghost use Rattle.std.specs.List.Sorted.{IsStrictlySortedBy};
 ghost use Rattle.ta_core.specs.TreeAutomaton.{trans_cmp};
 ghost use Rattle.ta_core.specs.declared.trans.Trans.{Trans as Transition};
-ghost use Rattle.ta_clean.specs.Sizes.{AreLeast, AreMade, AreSettled, FollowedBy, HasSizes, IsFollowed, IsPairOf, IsUnmade, Lowers};
+ghost use Rattle.ta_clean.specs.Sizes.{AreLeast, AreMade, AreSettled, FollowedBy, HasSizes};
+ghost use Rattle.ta_clean.specs.Sizes.{IsFollowed, IsPairOf, IsUnmade, Lowers};
 ghost use Rattle.ta_clean.specs.Uses.{IsUseOf};
 
 use crate::meeting::product::Product;
