@@ -4,5 +4,6 @@ pub mod Groups
 pub mod Rests
 pub mod Collected
 pub mod Rows
+pub mod Belows
 pub mod Sets
 pub mod Laws

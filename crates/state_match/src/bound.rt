@@ -1,8 +1,10 @@
 //! A pattern whose first variables stand for states.
-ghost use Rattle.std.specs.Prelude.{◌≡◌, ◌↔◌, ℕ, [], Contains, IfOk};
+ghost use Rattle.std.specs.Prelude.{◌≡◌, ◌↔◌, ℕ, [], Contains, IfOk, IfSome};
+ghost use Rattle.state_match.specs.Belows.{IsBelow};
 ghost use Rattle.state_match.specs.Rows.{IsFirst, IsReverse, RunsFor};
 
 use crate::assigned::assigned_states;
+use crate::below::Below;
 use crate::join::narrow_whole;
 use crate::rows::no_states;
 use crate::tabled::Tabled;
@@ -22,17 +24,19 @@ pub(crate) struct Bound<'a> {
     runs: &'a Tabled<'a>,
     reversed: &'a Turned,
     all: &'a StateSet,
-    first: &'a StateSet,
+    first: &'a Option<StateSet>,
     pattern: &'a Pattern,
+    below: &'a Below,
     vars: &'a [u32],
     states: Vec<u32>,
 }
 
 impl<'a> Model for Bound<'a> {
-    ghost use Rattle.std.specs.Prelude.{◌≡◌, All, Contains};
+    ghost use Rattle.std.specs.Prelude.{◌≡◌, All, Contains, IfSome};
     ghost use Rattle.std.specs.Coded.{codes};
     ghost use Rattle.ranked_terms.specs.contracts.term.Pattern as patterns;
     ghost use Rattle.state_match.specs.Rests.{Rest};
+    ghost use Rattle.state_match.specs.Belows.{IsBelow};
     ghost use Rattle.state_match.specs.Rows.{IsFirst, IsReverse, RunsFor};
 
     ghost Value = { Rest };
@@ -51,7 +55,8 @@ impl<'a> Model for Bound<'a> {
         × RunsFor b.plain b.automaton.now b.runs.now
         × IsReverse b.runs.now b.reversed.now
         × (b.all.now ≡ b.runs.now.states)
-        × IsFirst b.runs.now b.all.now b.pattern.now b.first.now };
+        × IfSome b.first.now (IsFirst b.runs.now b.all.now b.pattern.now)
+        × IsBelow b.runs.now b.pattern.now b.below.now };
 }
 
 impl<'a> Bound<'a> {
@@ -63,14 +68,16 @@ impl<'a> Bound<'a> {
         runs: &'a Tabled<'a>,
         reversed: &'a Turned,
         all: &'a StateSet,
-        first: &'a StateSet,
+        first: &'a Option<StateSet>,
         pattern: &'a Pattern,
+        below: &'a Below,
         vars: &'a [u32],
     ) -> Bound<'a>
         requires runs { RunsFor plain automaton.now runs.now }
         requires reverse { IsReverse runs.now reversed.now }
         requires all { all.now ≡ runs.now.states }
-        requires first { IsFirst runs.now all.now pattern.now first.now }
+        requires first { IfSome first.now (IsFirst runs.now all.now pattern.now) }
+        requires below { IsBelow runs.now pattern.now below.now }
         ensures { result ≡ record {
           plain = plain;
           automaton = automaton.now;
@@ -88,6 +95,7 @@ impl<'a> Bound<'a> {
             all,
             first,
             pattern,
+            below,
             vars,
             states: Vec::new(alloc),
         }
@@ -109,8 +117,9 @@ impl<'a> Narrowed for Bound<'a> {
             self.all,
             self.vars,
             bound,
-            self.first,
+            self.first.as_ref(),
             self.pattern,
+            self.below,
         )? {
             Some(states) => Ok(states),
             None => StateSet::from_slice(self.alloc, every),
@@ -132,6 +141,7 @@ impl<'a> Narrowed for Bound<'a> {
             all: self.all,
             first: self.first,
             pattern: self.pattern,
+            below: self.below,
             vars: self.vars,
             states,
         }))

@@ -5,6 +5,7 @@ ghost use Rattle.state_match.specs.Matches.{MatchesAt};
 ghost use Rattle.state_match.specs.Rows.{IsReverse, RunsFor};
 ghost use Rattle.state_match.specs.Groups.{group_of, TookAll, TookFirst, TookUpTo};
 
+use crate::below::Below;
 use crate::bound::Bound;
 use crate::join::first_wanted;
 use crate::matcher::Matcher;
@@ -138,9 +139,10 @@ fn each_by<V: Groups>(
     let alloc = matcher.alloc();
     let tabled = matcher.tabled();
     let all = matcher.all();
-    let first = first_wanted(alloc, tabled, turned, all, pattern)?;
+    let below = Below::of(alloc, tabled, all, pattern)?;
+    let first = first_wanted(alloc, tabled, turned, all, pattern, &below)?;
     let start = Bound::new(
-        alloc, plain, automaton, tabled, turned, all, &first, pattern, vars,
+        alloc, plain, automaton, tabled, turned, all, &first, pattern, &below, vars,
     );
     let mut assignment = Vec::new(alloc);
     walk(&start, vars.len(), &mut assignment, visitor)

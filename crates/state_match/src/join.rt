@@ -4,8 +4,10 @@ ghost use Rattle.ranked_terms.specs.Terms.{assigned};
 ghost use Rattle.ta_core.specs.Closure.{state_in};
 ghost use Rattle.ta_core.specs.Runs.{Runs};
 ghost use Rattle.ta_core.specs.Reached.{EntersAndReaches};
-ghost use Rattle.state_match.specs.Rows.{IsClosedBack, IsFirst, IsNextAt, IsReverse};
+ghost use Rattle.state_match.specs.Belows.{IsBelow};
+ghost use Rattle.state_match.specs.Rows.{IsClosedBack, IsFirst, IsFirstOf, IsNextAt, IsReverse};
 
+use crate::below::Below;
 use crate::known::Known;
 use crate::places::place_of;
 use crate::rows::{next_states, no_states};
@@ -26,7 +28,7 @@ pub(crate) fn applied(
     requires { all.now ≡ automaton.now.states }
     ensures { IfOk result (λ states. (q : ℕ) → Contains states q ↔ EntersAndReaches automaton.now sym sets.now q) }
 {
-    let targets = next_states(alloc, automaton.trans(), sym, sets, sets.len(), all)?;
+    let targets = next_states(alloc, automaton.trans(), sym, sets, &[], sets.len(), all)?;
     automaton.closed(targets)
 }
 
@@ -90,9 +92,11 @@ pub(crate) fn narrow(
     bound: &[u32],
     wanted: &StateSet,
     pattern: &Pattern,
+    below: &Below,
 ) -> Result<Option<StateSet>, AllocError>
     requires all { all.now ≡ automaton.now.states }
     requires reverse { IsReverse automaton.now reversed.now }
+    requires below { IsBelow automaton.now pattern.now below.now }
     ensures { IfOk result (λ states. IfSome states (λ states. IsClosedBack automaton.now wanted.now →
         (s : ℕ) (rest : List ℕ) (q : ℕ) → Contains wanted.now q →
         Runs automaton.now (assigned (state_in vars.now (bound.now ++ s ∷ rest)) pattern.now) q → Contains states s)) }
@@ -107,19 +111,23 @@ pub(crate) fn narrow(
         }
         Pattern::App(sym, args) => {
             let mut sets = Vec::new(alloc);
-            for arg in args.as_slice() {
+            for (place, arg) in args.as_slice().iter().enumerate() {
                 match value(alloc, automaton, all, vars, bound, arg)? {
                     Some(set) => {
                         let listed = set.listed_if(alloc, automaton.has_many(*sym))?;
                         sets.push(listed)?;
                     }
                     None => {
+                        let others = &below.sets[place..];
                         let count = args.as_slice().len();
                         let column = column(
-                            alloc, automaton, reversed, all, *sym, &sets, count, wanted,
+                            alloc, automaton, reversed, all, *sym, &sets, others, count, wanted,
                         )?;
                         let back = reversed.closed(column)?;
-                        return narrow(alloc, automaton, reversed, all, vars, bound, &back, arg);
+                        let deeper = &below.args[place];
+                        return narrow(
+                            alloc, automaton, reversed, all, vars, bound, &back, arg, deeper,
+                        );
                     }
                 }
             }
@@ -128,7 +136,7 @@ pub(crate) fn narrow(
     }
 }
 
-/// As `narrow` where all states are wanted of the pattern, and these of its first argument, whatever the variables stand for.
+/// As `narrow` where all states are wanted of the pattern, and these of its first argument, where that is known.
 pub(crate) fn narrow_whole(
     alloc: Global,
     automaton: &Tabled,
@@ -136,57 +144,92 @@ pub(crate) fn narrow_whole(
     all: &StateSet,
     vars: &[u32],
     bound: &[u32],
-    first: &StateSet,
+    first: Option<&StateSet>,
     pattern: &Pattern,
+    below: &Below,
 ) -> Result<Option<StateSet>, AllocError>
     requires all { all.now ≡ automaton.now.states }
     requires reverse { IsReverse automaton.now reversed.now }
-    requires first { IsFirst automaton.now all.now pattern.now first.now }
+    requires first { IfSome first (λ first. IsFirst automaton.now all.now pattern.now first.now) }
+    requires below { IsBelow automaton.now pattern.now below.now }
     ensures { IfOk result (λ states. IfSome states (λ states. IsClosedBack automaton.now all.now →
         (s : ℕ) (rest : List ℕ) (q : ℕ) → Contains all.now q →
         Runs automaton.now (assigned (state_in vars.now (bound.now ++ s ∷ rest)) pattern.now) q → Contains states s)) }
 {
-    if let Pattern::App(_, args) = pattern {
-        let args = args.as_slice();
-        if !args.is_empty() {
-            let arg = &args[0];
+    if let Some(first) = first {
+        if let Some(arg) = first_of(pattern) {
+            let deeper = &below.args[0];
             if let Some(states) = narrow(
-                alloc, automaton, reversed, all, vars, bound, first, arg,
+                alloc, automaton, reversed, all, vars, bound, first, arg, deeper,
             )? {
                 return Ok(Some(states));
             }
         }
     }
-    narrow(alloc, automaton, reversed, all, vars, bound, all, pattern)
+    narrow(
+        alloc, automaton, reversed, all, vars, bound, all, pattern, below,
+    )
 }
 
 /// What is wanted of the first argument of the pattern where all states are wanted of the pattern, whatever its variables stand
-/// for. The only error is running out of memory.
+/// for, or none where that is needed once at most. The only error is running out of memory.
 pub(crate) fn first_wanted(
     alloc: Global,
     automaton: &Tabled,
     reversed: &Turned,
     all: &StateSet,
     pattern: &Pattern,
-) -> Result<StateSet, AllocError>
+    below: &Below,
+) -> Result<Option<StateSet>, AllocError>
     requires all { all.now ≡ automaton.now.states }
     requires reverse { IsReverse automaton.now reversed.now }
-    ensures { IfOk result (λ first. IsFirst automaton.now all.now pattern.now first) }
+    requires below { IsBelow automaton.now pattern.now below.now }
+    ensures { IfOk result (λ first. IfSome first (IsFirst automaton.now all.now pattern.now)) }
+{
+    let Pattern::App(sym, args) = pattern else {
+        return Ok(None);
+    };
+    if !has_deep_first(args.as_slice()) {
+        return Ok(None);
+    }
+    let count = args.as_slice().len();
+    let column = column(
+        alloc,
+        automaton,
+        reversed,
+        all,
+        *sym,
+        &[],
+        &below.sets,
+        count,
+        all,
+    )?;
+    let first = reversed.closed(column)?;
+    Ok(Some(first))
+}
+
+/// The first argument of the pattern, where it has one.
+fn first_of(pattern: &Pattern) -> Option<&Pattern>
+    ensures { IfSome result (λ arg. IsFirstOf pattern.now arg.now) }
 {
     match pattern {
-        Pattern::Var(_) => no_states(alloc),
-        Pattern::App(sym, args) => {
-            let sets = Vec::new(alloc);
-            let count = args.as_slice().len();
-            let column = column(alloc, automaton, reversed, all, *sym, &sets, count, all)?;
-            reversed.closed(column)
-        }
+        Pattern::Var(_) => None,
+        Pattern::App(_, args) => args.as_slice().first(),
+    }
+}
+
+/// Whether the first of the patterns has arguments.
+fn has_deep_first(patterns: &[Pattern]) -> bool {
+    match patterns.first() {
+        Some(Pattern::App(_, args)) => !args.as_slice().is_empty(),
+        _ => false,
     }
 }
 
 /// States among which is each one that stands as the next argument in a transition of the symbol with so many arguments to a
-/// wanted state, behind first arguments from these sets. Where there are none, and fewer states are wanted than the symbol has
-/// transitions, these are looked up by their targets. The only error is running out of memory.
+/// wanted state, behind first arguments from these sets, where the arguments from it on are from the others. Where there are no
+/// first ones, and fewer states are wanted than the symbol has transitions, these are looked up by their targets. The only
+/// error is running out of memory.
 fn column(
     alloc: Global,
     automaton: &Tabled,
@@ -194,6 +237,7 @@ fn column(
     all: &StateSet,
     sym: u32,
     sets: &[Known],
+    others: &[Known],
     arity: usize,
     wanted: &StateSet,
 ) -> Result<StateSet, AllocError>
@@ -201,14 +245,22 @@ fn column(
     requires reverse { IsReverse automaton.now reversed.now }
     requires count { arity + 1 < 2 ^ 64 }
     ensures next { IfOk result (λ states. (x : ℕ) →
-        IsNextAt automaton.now.trans sym sets.now arity wanted.now x → Contains states x) }
+        IsNextAt automaton.now.trans sym sets.now others.now arity wanted.now x → Contains states x) }
     ensures inside { IfOk result (All (Contains reversed.now.states)) }
 {
     if !sets.is_empty() || automaton.count_with(sym) <= wanted.as_slice().len() {
-        return next_states(alloc, automaton.trans(), sym, sets, arity, wanted);
+        return next_states(alloc, automaton.trans(), sym, sets, others, arity, wanted);
     }
     let mut targets = Vec::new(alloc);
     let wanted = StateSet::from_slice(alloc, wanted.as_slice())?;
     targets.push(Known::listed(wanted))?;
-    next_states(alloc, reversed.trans(), sym, &targets, arity + 1, all)
+    next_states(
+        alloc,
+        reversed.trans(),
+        sym,
+        &targets,
+        others,
+        arity + 1,
+        all,
+    )
 }

@@ -9,22 +9,24 @@ use crate::known::Known;
 use std::alloc::{AllocError, Global};
 use ta_core::{StateSet, Trans};
 
-/// The states that stand next in those transitions of the symbol whose first arguments are members of these sets, which have
-/// so many arguments and lead to a wanted state. The only error is running out of memory.
+/// The states that stand next in those transitions of the symbol whose first arguments are members of these sets and whose
+/// next ones, from that state on, are members of the others, which have so many arguments and lead to a wanted state. The only
+/// error is running out of memory.
 pub(crate) fn next_states(
     alloc: Global,
     trans: &[Trans],
     sym: u32,
     sets: &[Known],
+    others: &[Known],
     arity: usize,
     wanted: &StateSet,
 ) -> Result<StateSet, AllocError>
     requires { IsStrictlySortedBy trans_cmp trans.now }
-    ensures { IfOk result (λ all. (x : ℕ) → Contains all x ↔ IsNextAt trans.now sym sets.now arity wanted.now x) }
+    ensures { IfOk result (λ all. (x : ℕ) → Contains all x ↔ IsNextAt trans.now sym sets.now others.now arity wanted.now x) }
 {
     let rows = with_symbol(trans, sym);
     let mut found = Vec::new(alloc);
-    add_next(rows, 0, sets, arity, wanted, &mut found)?;
+    add_next(rows, 0, sets, others, arity, wanted, &mut found)?;
     StateSet::from_states(alloc, found)
 }
 
@@ -34,6 +36,7 @@ fn add_next(
     rows: &[Trans],
     place: usize,
     sets: &[Known],
+    others: &[Known],
     arity: usize,
     wanted: &StateSet,
     found: &mut Vec<u32>,
@@ -41,18 +44,18 @@ fn add_next(
     requires within { place ≤ length sets.now }
     requires sorted { IsStrictlySortedBy trans_cmp rows.now }
     requires alike { AreAlike place rows.now }
-    ensures { OnOk result (HasNext found.old.items rows.now place (drop place sets.now) arity wanted.now found.new.items) }
+    ensures { OnOk result (HasNext found.old.items rows.now place (drop place sets.now) others.now arity wanted.now found.new.items) }
 {
     if place == sets.len() {
-        return add_each(rows, place, sets, arity, wanted, found);
+        return add_each(rows, place, sets, others, arity, wanted, found);
     }
     let set = &sets[place];
     let Some(list) = fewer_than(set, rows.len()) else {
-        return add_each(rows, place, sets, arity, wanted, found);
+        return add_each(rows, place, sets, others, arity, wanted, found);
     };
     for state in list {
         let fewer = rows_at(rows, place, *state);
-        add_next(fewer, place + 1, sets, arity, wanted, found)?;
+        add_next(fewer, place + 1, sets, others, arity, wanted, found)?;
     }
     Ok(())
 }
@@ -73,15 +76,16 @@ fn add_each(
     rows: &[Trans],
     place: usize,
     sets: &[Known],
+    others: &[Known],
     arity: usize,
     wanted: &StateSet,
     found: &mut Vec<u32>,
 ) -> Result<(), AllocError>
     requires { place ≤ length sets.now }
-    ensures { OnOk result (HasNext found.old.items rows.now place (drop place sets.now) arity wanted.now found.new.items) }
+    ensures { OnOk result (HasNext found.old.items rows.now place (drop place sets.now) others.now arity wanted.now found.new.items) }
 {
     for t in rows {
-        if is_wanted(t, place, sets, arity, wanted) {
+        if is_wanted(t, place, sets, others, arity, wanted) {
             found.push(next_at(t, sets.len()))?;
         }
     }
@@ -89,10 +93,17 @@ fn add_each(
 }
 
 /// Whether the transition has so many arguments and leads to a wanted state, and its arguments from the place on are members of
-/// the sets from there on.
-fn is_wanted(t: &Trans, place: usize, sets: &[Known], arity: usize, wanted: &StateSet) -> bool
+/// the sets from there on, and then of the others.
+fn is_wanted(
+    t: &Trans,
+    place: usize,
+    sets: &[Known],
+    others: &[Known],
+    arity: usize,
+    wanted: &StateSet,
+) -> bool
     requires { place ≤ length sets.now }
-    ensures { IsTrue result ↔ Fits place (drop place sets.now) arity wanted.now t.now }
+    ensures { IsTrue result ↔ Fits place (drop place sets.now) others.now arity wanted.now t.now }
 {
     let args = t.args.as_slice();
     if args.len() != arity {
@@ -101,24 +112,23 @@ fn is_wanted(t: &Trans, place: usize, sets: &[Known], arity: usize, wanted: &Sta
     if !wanted.contains(t.to) {
         return false;
     }
-    fit_from(args, place, sets)
+    fit_from(args, place, &sets[place..]) && fit_from(args, sets.len(), others)
 }
 
-/// Whether the arguments from the place on are members of the sets from there on.
+/// Whether the arguments from the place on are members of these sets.
 fn fit_from(args: &[u32], place: usize, sets: &[Known]) -> bool
-    requires { place ≤ length sets.now }
-    ensures { IsTrue result ↔ FitsFrom place (drop place sets.now) args.now }
+    ensures { IsTrue result ↔ FitsFrom place sets.now args.now }
 {
-    if place == sets.len() {
+    if sets.is_empty() {
         return true;
     }
     if place >= args.len() {
         return false;
     }
-    if !sets[place].contains(args[place]) {
+    if !sets[0].contains(args[place]) {
         return false;
     }
-    fit_from(args, place + 1, sets)
+    fit_from(args, place + 1, &sets[1..])
 }
 
 /// The state at the place: an argument, or behind the last one the target.

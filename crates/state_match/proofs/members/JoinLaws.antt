@@ -18,8 +18,10 @@ use Rattle.list_laws.proofs.Members.{all_from_members}
 use Rattle.ta_core.specs.lemmas.RunsLaws.{run_of_app, run_of_state, run_of_plain, plain_of_run}
 use Rattle.ta_core.specs.lemmas.RunStates.{AreExact, exact_more, runs_of_app, entered_and_reached}
 use Rattle.list_laws.proofs.Zips.{zip_length}
-use Rattle.state_match.specs.Rows.{FitsFrom, IsNextAt, IsClosedBack, IsFirst, IsReverse, turn, turn_row, RunsFor}
+use Rattle.state_match.specs.Rows.{FitsFrom, IsNextAt, IsClosedBack, IsFirst, IsFirstOf, IsReverse, turn, turn_row, RunsFor}
+use Rattle.state_match.specs.Belows.{RunsInto}
 use Rattle.state_match.proofs.members.Members.{here, there, none, map_has, map_had}
+use Rattle.state_match.proofs.members.Belows.{Into, into_given, into_runs, zip_from}
 
 -- ---- sets of states at their places
 
@@ -58,19 +60,19 @@ get_has k qs d P a p = go k qs (λ q c. All-contains P qs q a c)
     go (suc k) (q ∷ qs) h = go k qs (λ r c. h r (there q r qs c))
 
 -- what stands next is a state
-pub next_inside : (A : TreeAutomaton) → IsSound A → (f arity : ℕ) (sets : List (List ℕ)) (wanted all : List ℕ) → ((x : ℕ) → Contains all x ↔ IsNextAt A.trans f sets arity wanted x) → All (Contains A.states) all
-next_inside A sound f arity sets wanted all exact = all_from_members (Contains A.states) all (λ x c.
+pub next_inside : (A : TreeAutomaton) → IsSound A → (f arity : ℕ) (sets others : List (List ℕ)) (wanted all : List ℕ) → ((x : ℕ) → Contains all x ↔ IsNextAt A.trans f sets others arity wanted x) → All (Contains A.states) all
+next_inside A sound f arity sets others wanted all exact = all_from_members (Contains A.states) all (λ x c.
     let n = ((exact x).0 c).next in
     let t = All-contains (IsTransOf A.states) A.trans n.row sound.trans n.has in
     subst (Contains A.states) n.is (get_has (0 + length sets) n.row.args n.row.to (Contains A.states) t.args t.to))
 
 -- of the same transitions
-pub exact_at : (ts us : List Trans) (f count : ℕ) (sets : List (List ℕ)) (ends all : List ℕ) → ts ≡ us → ((x : ℕ) → Contains all x ↔ IsNextAt ts f sets count ends x) → (x : ℕ) → Contains all x ↔ IsNextAt us f sets count ends x
-exact_at ts us f count sets ends all e h x = subst (λ (rows : List Trans). Contains all x ↔ IsNextAt rows f sets count ends x) e (h x)
+pub exact_at : (ts us : List Trans) (f count : ℕ) (sets others : List (List ℕ)) (ends all : List ℕ) → ts ≡ us → ((x : ℕ) → Contains all x ↔ IsNextAt ts f sets others count ends x) → (x : ℕ) → Contains all x ↔ IsNextAt us f sets others count ends x
+exact_at ts us f count sets others ends all e h x = subst (λ (rows : List Trans). Contains all x ↔ IsNextAt rows f sets others count ends x) e (h x)
 
 -- ---- behind all arguments stands the target
 
-pub targets_next : (A : TreeAutomaton) → IsSound A → (f : ℕ) (sets : List (List ℕ)) (states : List ℕ) → states ≡ A.states → (x : ℕ) → IsNextAt A.trans f sets (length sets) states x ↔ HasTransInto A.trans f sets x
+pub targets_next : (A : TreeAutomaton) → IsSound A → (f : ℕ) (sets : List (List ℕ)) (states : List ℕ) → states ≡ A.states → (x : ℕ) → IsNextAt A.trans f sets [] (length sets) states x ↔ HasTransInto A.trans f sets x
 targets_next A sound f sets states e x = (
   λ n.
       let m = n.next in
@@ -85,6 +87,7 @@ targets_next A sound f sets states e x = (
           row = trans_of f h.args x;
           has = h.has;
           fits = fits_from_zip sets h.args h.fit;
+          on = tt;
           arity = sym long;
           wanted = subst (λ xs. Contains xs x) (sym e) (All-contains (IsTransOf A.states) A.trans (trans_of f h.args x) sound.trans h.has).to;
           is = get_past (0 + length sets) h.args x (omega (arith, long));
@@ -93,7 +96,7 @@ targets_next A sound f sets states e x = (
       },
 )
 
-pub applied_is : (A : TreeAutomaton) → IsSound A → (f : ℕ) (sets : List (List ℕ)) (states targets : List ℕ) → states ≡ A.states → ((x : ℕ) → Contains targets x ↔ IsNextAt A.trans f sets (length sets) states x) →
+pub applied_is : (A : TreeAutomaton) → IsSound A → (f : ℕ) (sets : List (List ℕ)) (states targets : List ℕ) → states ≡ A.states → ((x : ℕ) → Contains targets x ↔ IsNextAt A.trans f sets [] (length sets) states x) →
     (q : ℕ) → ReachedFrom A targets q ↔ EntersAndReaches A f sets q
 applied_is A sound f sets states targets e exact = entered_and_reached A f sets targets (λ x.
     let t = targets_next A sound f sets states e x in
@@ -122,31 +125,32 @@ inside_reverse A B v all a = all_from_members (Contains B.states) all (λ q c. v
 
 -- ---- the next argument
 
--- the first ones are in their sets, and the next one runs to what stands next
-record Split (A : TreeAutomaton) (sets : List (List ℕ)) (qs : List ℕ) (c : Config) : Type 0 where
+-- the first ones are in their sets, those from the next one on in the others, and the next one runs to what stands next
+record Split (A : TreeAutomaton) (sets others : List (List ℕ)) (qs : List ℕ) (c : Config) : Type 0 where
   state : ℕ
   fits : FitsFrom 0 sets qs
+  on : FitsFrom (length sets) others qs
   is : (d : ℕ) → get_or qs (length sets) d ≡ state
   runs : Runs A c state
 
-split : (A : TreeAutomaton) (cs : List Config) (c : Config) (more : List Config) (sets : List (List ℕ)) {qs : List ℕ} → AreExact A cs sets → RunsAll A (cs ++ c ∷ more) qs → Split A sets qs c
-split A [] c more [] e (RunsAll.more {q = q} r rs) = record { state = q; fits = tt; is = λ d. refl; runs = r }
-split A [] c more (s ∷ sets) e r = absurd e
-split A (x ∷ cs) c more [] e r = absurd e
-split A (x ∷ cs) c more (s ∷ sets) e (RunsAll.more {q = q} {qs = qs} r rs) =
-    let h = split A cs c more sets e.1 rs in
-    record { state = h.state; fits = (q, refl, (e.0 q).1 r, fits_up 0 q sets qs h.fits); is = λ d. h.is d; runs = h.runs }
+split : (A : TreeAutomaton) (cs : List Config) (c : Config) (more : List Config) (sets others : List (List ℕ)) {qs : List ℕ} → AreExact A cs sets → Into A (c ∷ more) others → RunsAll A (cs ++ c ∷ more) qs → Split A sets others qs c
+split A [] c more [] others e z (RunsAll.more {q = q} {qs = qs} r rs) = record { state = q; fits = tt; on = fits_from_zip others (q ∷ qs) (into_runs A others z (RunsAll.more r rs)); is = λ d. refl; runs = r }
+split A [] c more (s ∷ sets) others e z r = absurd e
+split A (x ∷ cs) c more [] others e z r = absurd e
+split A (x ∷ cs) c more (s ∷ sets) others e z (RunsAll.more {q = q} {qs = qs} r rs) =
+    let h = split A cs c more sets others e.1 z rs in
+    record { state = h.state; fits = (q, refl, (e.0 q).1 r, fits_up 0 q sets qs h.fits); on = fits_up (length sets) q others qs h.on; is = λ d. h.is d; runs = h.runs }
 
 runs_length : {A : TreeAutomaton} {cs : List Config} {qs : List ℕ} → RunsAll A cs qs → length qs ≡ length cs
 runs_length RunsAll.none = refl
 runs_length (RunsAll.more r rs) = ap suc (runs_length rs)
 
 -- the argument runs to a state of the column
-pub column_has : (A : TreeAutomaton) (f q : ℕ) (cs : List Config) (c : Config) (more : List Config) (sets : List (List ℕ)) (wanted column : List ℕ) → IsClosedBack A wanted → AreExact A cs sets →
-    ((x : ℕ) → IsNextAt A.trans f sets (length (cs ++ c ∷ more)) wanted x → Contains column x) → Contains wanted q → Runs A (App f (cs ++ c ∷ more)) q → (x : ℕ) × Contains column x × Runs A c x
-column_has A f q cs c more sets wanted column closed exact members want r =
+pub column_has : (A : TreeAutomaton) (f q : ℕ) (cs : List Config) (c : Config) (more : List Config) (sets others : List (List ℕ)) (wanted column : List ℕ) → IsClosedBack A wanted → AreExact A cs sets → Into A (c ∷ more) others →
+    ((x : ℕ) → IsNextAt A.trans f sets others (length (cs ++ c ∷ more)) wanted x → Contains column x) → Contains wanted q → Runs A (App f (cs ++ c ∷ more)) q → (x : ℕ) × Contains column x × Runs A c x
+column_has A f q cs c more sets others wanted column closed exact into members want r =
     let a = run_of_app f (cs ++ c ∷ more) q r in
-    let h = split A cs c more sets exact a.args in
+    let h = split A cs c more sets others exact into a.args in
     let plain_sum : 0 + length sets ≡ length sets = omega arith in (
       h.state,
       members h.state (record {
@@ -154,6 +158,7 @@ column_has A f q cs c more sets wanted column closed exact members want r =
           row = trans_of f a.states a.target;
           has = a.has;
           fits = h.fits;
+          on = subst (λ k. FitsFrom k others a.states) (sym plain_sum) h.on;
           arity = runs_length a.args;
           wanted = closed a.target q a.on want;
           is = ap (λ k. get_or a.states k a.target) plain_sum ∙ h.is a.target;
@@ -226,57 +231,48 @@ module _ (A : TreeAutomaton) (vars bound : List ℕ) where
       let run : Runs A (State s) q = subst (λ c. Runs A c q) (assigned_var (state_in vars (bound ++ s ∷ rest)) v ∙ ap State same) r in
       subst (λ xs. Contains xs s) (sym e) (closed s q (run_of_state s q run).1 want)
 
-  pub narrow_app : (f : ℕ) (items args : List Pattern) (i arity : ℕ) (arg : Pattern) (sets : List (List ℕ)) (wanted column back : List ℕ) (B : TreeAutomaton) → IsReverse A B → items ≡ args → i < length items → arg ≡ get_or items i arg → arity ≡ length args →
-      AreSets (take i items) sets → ((x : ℕ) → IsNextAt A.trans f sets arity wanted x → Contains column x) → ((q : ℕ) → Contains back q ↔ ReachedFrom B column q) →
+  pub narrow_app : (f : ℕ) (items args : List Pattern) (i arity : ℕ) (arg : Pattern) (sets others belows : List (List ℕ)) (wanted column back : List ℕ) (B : TreeAutomaton) → IsReverse A B → items ≡ args → i < length items → arg ≡ get_or items i arg → arity ≡ length args →
+      AreSets (take i items) sets → others ≡ drop i belows → AllZip (RunsInto A) args belows → ((x : ℕ) → IsNextAt A.trans f sets others arity wanted x → Contains column x) → ((q : ℕ) → Contains back q ↔ ReachedFrom B column q) →
       (states : List ℕ) → Narrows back arg states → Narrows wanted (App' f args) states
-  narrow_app f items args i arity arg sets wanted column back B v e l is long exact members all states inner closed s rest q want r =
+  narrow_app f items args i arity arg sets others belows wanted column back B v e l is long exact from under members all states inner closed s rest q want r =
       let g : Pattern → Config = assigned (state_in vars (bound ++ s ∷ rest)) in
       let parts' : items ≡ take i items ++ arg ∷ drop (i + 1) items = sym (take-append-drop i items) ∙ ap (λ ps. take i items ++ ps) (drop_more items i arg l ∙ (λ k. sym is k ∷ drop (i + 1) items)) in
       let cs : map g args ≡ map g (take i items) ++ g arg ∷ map g (drop (i + 1) items) = ap (map g) (sym e ∙ parts') ∙ map-append g (take i items) (arg ∷ drop (i + 1) items) in
+      let behind : drop i items ≡ arg ∷ drop (i + 1) items = drop_more items i arg l ∙ (λ k. sym is k ∷ drop (i + 1) items) in
+      let into : Into A (g arg ∷ map g (drop (i + 1) items)) others = subst (λ ps. Into A (map g ps) others) behind (into_given A (state_in vars (bound ++ s ∷ rest)) (drop i items) others
+      (subst (AllZip (RunsInto A) (drop i items)) (sym from) (zip_from (RunsInto A) i items belows (subst (λ ps. AllZip (RunsInto A) ps belows) (sym e) under)))) in
       let count : arity ≡ length (map g (take i items) ++ g arg ∷ map g (drop (i + 1) items)) = long ∙ (sym (mapped_length g args) ∙ ap (λ (xs : List Config). length xs) cs) in
       let run : Runs A (App f (map g (take i items) ++ g arg ∷ map g (drop (i + 1) items))) q = subst (λ c. Runs A c q) (assigned_app (state_in vars (bound ++ s ∷ rest)) f args ∙ ap (App f) cs) r in
-      let h = column_has A f q (map g (take i items)) (g arg) (map g (drop (i + 1) items)) sets wanted column closed (exact (s ∷ rest))
-      (λ x. subst (λ n. IsNextAt A.trans f sets n wanted x → Contains column x) count (members x)) want run in
+      let h = column_has A f q (map g (take i items)) (g arg) (map g (drop (i + 1) items)) sets others wanted column closed (exact (s ∷ rest)) into
+      (λ x. subst (λ n. IsNextAt A.trans f sets others n wanted x → Contains column x) count (members x)) want run in
       inner (closed_back A B v column back all) s rest h.0 (in_back B column back all h.0 h.1) h.2
 
   -- ---- the first argument of the whole pattern
 
-  head : (items : List Pattern) (x : Pattern) → 0 < length items → x ≡ get_or items 0 x → (tail : List Pattern) × (items ≡ x ∷ tail)
-  head [] x l e = absurd (omega arith)
-  head (y ∷ ys) x l e = (ys, λ i. sym e i ∷ ys)
-
-  pub narrow_first : (p : Pattern) (f : ℕ) (args items : List Pattern) (arg : Pattern) (all first states : List ℕ) → p ≡ App' f args → items ≡ args → 0 < length items → arg ≡ get_or items 0 arg → IsFirst A all p first →
-      Narrows first arg states → Narrows all p states
-  narrow_first p f args items arg all first states is same l at known inner closed s rest q want r =
-      let g : Pattern → Config = assigned (state_in vars (bound ++ s ∷ rest)) in
-      let h = head items arg l at in
-      let whole : args ≡ arg ∷ h.0 = sym same ∙ h.1 in
-      let run : Runs A (App f (g arg ∷ map g h.0)) q = subst (λ c. Runs A c q) (ap g is ∙ (assigned_app (state_in vars (bound ++ s ∷ rest)) f args ∙ ap (λ ps. App f (map g ps)) whole)) r in
-      let count : length args ≡ length (g arg ∷ map g h.0) = ap (λ (ps : List Pattern). length ps) whole ∙ ap suc (sym (mapped_length g h.0)) in
-      let x = known.has f args is closed (g arg) (map g h.0) q count want run in
+  pub narrow_first : (p arg : Pattern) (all first states : List ℕ) → IsFirstOf p arg → IsFirst A all p first → Narrows first arg states → Narrows all p states
+  narrow_first p arg all first states is known inner closed s rest q want r =
+      let x = known.has arg is closed (state_in vars (bound ++ s ∷ rest)) q want r in
       inner known.closed s rest x.0 x.1 x.2
 
 -- what is wanted of the first argument
-pub first_is : (A B : TreeAutomaton) → IsReverse A B → (p : Pattern) (sym' : ℕ) (args : List Pattern) (count : ℕ) (wanted column back : List ℕ) → p ≡ App' sym' args → count ≡ length args →
-    ((x : ℕ) → IsNextAt A.trans sym' [] count wanted x → Contains column x) → ((q : ℕ) → Contains back q ↔ ReachedFrom B column q) → IsFirst A wanted p back
-first_is A B v p sym' args count wanted column back is long members exact = record {
+pub first_is : (A B : TreeAutomaton) → IsReverse A B → (p : Pattern) (sym' : ℕ) (args : List Pattern) (count : ℕ) (sets others : List (List ℕ)) (wanted column back : List ℕ) → p ≡ App' sym' args → count ≡ length args → sets ≡ [] →
+    ((f : ℕ) (args : List Pattern) → p ≡ App' f args → AllZip (RunsInto A) args others) →
+    ((x : ℕ) → IsNextAt A.trans sym' sets others count wanted x → Contains column x) → ((q : ℕ) → Contains back q ↔ ReachedFrom B column q) → IsFirst A wanted p back
+first_is A B v p sym' args count sets others wanted column back is long empty under members exact = record {
   closed = closed_back A B v column back exact;
-  has = λ f others e closed c more q n want r.
-      let same : App' f others ≡ App' sym' args = sym e ∙ is in
-      let g : Pattern → Config = assigned (λ v. v) in
-      let both = same_application f sym' (map g others) (map g args) (sym (assigned_app (λ v. v) f others) ∙ (ap g same ∙ assigned_app (λ v. v) sym' args)) in
-      let symbol = both.0 in
-      let as_many : length others ≡ length args = sym (length-map others g) ∙ (ap (λ (cs : List Config). length cs) both.1 ∙ length-map args g) in
-      let enough : count ≡ length (c ∷ more) = long ∙ (sym as_many ∙ n) in
-      let h = column_has A f q [] c more [] wanted column closed tt
-      (λ x m. members x (subst (λ k. IsNextAt A.trans sym' [] k wanted x) (sym enough) (subst (λ g. IsNextAt A.trans g [] (length (c ∷ more)) wanted x) symbol m))) want r in
+  has = λ arg first closed σ q want r.
+      let f = first.symbol in
+      let rest = first.others in
+      let g : Pattern → Config = assigned σ in
+      let same : App' f (arg ∷ rest) ≡ App' sym' args = sym first.is ∙ is in
+      let both = same_application f sym' (map g (arg ∷ rest)) (map g args) (sym (assigned_app σ f (arg ∷ rest)) ∙ (ap g same ∙ assigned_app σ sym' args)) in
+      let as_many : length (g arg ∷ map g rest) ≡ length args = ap (λ (cs : List Config). length cs) both.1 ∙ length-map args g in
+      let enough : count ≡ length (g arg ∷ map g rest) = long ∙ sym as_many in
+      let run : Runs A (App f (g arg ∷ map g rest)) q = subst (λ c. Runs A c q) (ap g first.is ∙ assigned_app σ f (arg ∷ rest)) r in
+      let h = column_has A f q [] (g arg) (map g rest) [] others wanted column closed tt (into_given A σ (arg ∷ rest) others (under f (arg ∷ rest) first.is))
+      (λ x m. members x (subst (λ ss. IsNextAt A.trans sym' ss others count wanted x) (sym empty) (subst (λ k. IsNextAt A.trans sym' [] others k wanted x) (sym enough)
+      (subst (λ g. IsNextAt A.trans g [] others (length (assigned σ arg ∷ map (assigned σ) rest)) wanted x) both.0 m)))) want run in
       (h.0, in_back B column back exact h.0 h.1, h.2);
-}
-
-pub first_of_variable : (A : TreeAutomaton) (p : Pattern) (v : ℕ) (wanted first : List ℕ) → p ≡ Var v → first ≡ [] → IsFirst A wanted p first
-first_of_variable A p v wanted first is e = record {
-  closed = λ x y r c. absurd (none y (subst (λ xs. Contains xs y) e c));
-  has = λ f args other closed c more q n want r. let same : Var v ≡ App' f args = sym is ∙ other in cc;
 }
 
 -- ---- automata that runs are looked up in
@@ -306,14 +302,15 @@ no_sets [] e = refl
 no_sets (x ∷ xs) e = let z : length (x ∷ xs) ≡ 0 = eqb-true _ _ e in absurd (omega arith)
 
 -- what stands as the first argument of a transition to a wanted state stands behind its target, where that comes first
-pub next_turned : (A B : TreeAutomaton) → IsSound A → IsReverse A B → (f arity : ℕ) (wanted all : List ℕ) → all ≡ A.states → (x : ℕ) → IsNextAt A.trans f [] arity wanted x → IsNextAt B.trans f (wanted ∷ []) (arity + 1) all x
-next_turned A B sound v f arity wanted all e x n =
+pub next_turned : (A B : TreeAutomaton) → IsSound A → IsReverse A B → (f arity : ℕ) (others : List (List ℕ)) (wanted all : List ℕ) → all ≡ A.states → (x : ℕ) → IsNextAt A.trans f [] others arity wanted x → IsNextAt B.trans f (wanted ∷ []) others (arity + 1) all x
+next_turned A B sound v f arity others wanted all e x n =
     let m = n.next in
     record {
       next = record {
         row = turn_row m.row;
         has = v.trans m.row m.has;
         fits = (m.row.to, refl, m.wanted, tt);
+        on = fits_up 0 m.row.to others m.row.args m.on;
         arity = omega (arith, m.arity);
         wanted = subst (λ qs. Contains qs m.row.to) (sym e) (All-contains (IsTransOf A.states) A.trans m.row sound.trans m.has).to;
         is = m.is;

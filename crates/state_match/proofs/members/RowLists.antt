@@ -93,46 +93,46 @@ alike_all f rows trans members t u c d = (((members t).0 c).1 ∙ sym ((members 
 -- ---- what stands next
 
 -- one more transition
-module _ {place arity : ℕ} {sets : List (List ℕ)} {wanted : List ℕ} (done : List Trans) (t : Trans) where
-  later : (x : ℕ) → IsNext done place sets arity wanted x → IsNext (done ++ t ∷ []) place sets arity wanted x
-  later x h = record { row = h.row; has = Contains-append_left done (t ∷ []) h.row h.has; fits = h.fits; arity = h.arity; wanted = h.wanted; is = h.is }
+module _ {place arity : ℕ} {sets others : List (List ℕ)} {wanted : List ℕ} (done : List Trans) (t : Trans) where
+  later : (x : ℕ) → IsNext done place sets others arity wanted x → IsNext (done ++ t ∷ []) place sets others arity wanted x
+  later x h = record { row = h.row; has = Contains-append_left done (t ∷ []) h.row h.has; fits = h.fits; on = h.on; arity = h.arity; wanted = h.wanted; is = h.is }
 
-  pub row_skipped : (old all : List ℕ) → HasNext old done place sets arity wanted all → (Fits place sets arity wanted t → ⊥) → HasNext old (done ++ t ∷ []) place sets arity wanted all
+  pub row_skipped : (old all : List ℕ) → HasNext old done place sets others arity wanted all → (Fits place sets others arity wanted t → ⊥) → HasNext old (done ++ t ∷ []) place sets others arity wanted all
   row_skipped old all exact unfit x = (
     λ c. ⊎_elim (λ before. inl before) (λ h. inr (later x h)) ((exact x).0 c),
-    λ h. ⊎_elim (λ before. (exact x).1 (inl before)) (λ (n : IsNext (done ++ t ∷ []) place sets arity wanted x). ⊎_elim
-        (λ c. (exact x).1 (inr (record { row = n.row; has = c; fits = n.fits; arity = n.arity; wanted = n.wanted; is = n.is })))
-        (λ same. absurd (unfit (subst (Fits place sets arity wanted) (sym same) (record { arity = n.arity; fits = n.fits; wanted = n.wanted }))))
+    λ h. ⊎_elim (λ before. (exact x).1 (inl before)) (λ (n : IsNext (done ++ t ∷ []) place sets others arity wanted x). ⊎_elim
+        (λ c. (exact x).1 (inr (record { row = n.row; has = c; fits = n.fits; on = n.on; arity = n.arity; wanted = n.wanted; is = n.is })))
+        (λ same. absurd (unfit (subst (Fits place sets others arity wanted) (sym same) (record { arity = n.arity; fits = n.fits; on = n.on; wanted = n.wanted }))))
         (Contains-push_cases done t n.row n.has)) h,
   )
 
-  pub row_taken : (old all next : List ℕ) (y : ℕ) → HasNext old done place sets arity wanted all → Fits place sets arity wanted t → y ≡ get_or t.args (place + length sets) t.to → next ≡ all ++ y ∷ [] →
-      HasNext old (done ++ t ∷ []) place sets arity wanted next
+  pub row_taken : (old all next : List ℕ) (y : ℕ) → HasNext old done place sets others arity wanted all → Fits place sets others arity wanted t → y ≡ get_or t.args (place + length sets) t.to → next ≡ all ++ y ∷ [] →
+      HasNext old (done ++ t ∷ []) place sets others arity wanted next
   row_taken old all next y exact fits at e x = (
     λ c. ⊎_elim
         (λ c. ⊎_elim (λ before. inl before) (λ h. inr (later x h)) ((exact x).0 c))
-        (λ (same : y ≡ x). inr (record { row = t; has = Contains-push done t; fits = fits.fits; arity = fits.arity; wanted = fits.wanted; is = sym at ∙ same }))
+        (λ (same : y ≡ x). inr (record { row = t; has = Contains-push done t; fits = fits.fits; on = fits.on; arity = fits.arity; wanted = fits.wanted; is = sym at ∙ same }))
         (Contains-push_cases all y x (subst (λ xs. Contains xs x) e c)),
     λ h. subst (λ xs. Contains xs x) (sym e) (⊎_elim
         (λ before. Contains-append_left all (y ∷ []) x ((exact x).1 (inl before)))
-        (λ (n : IsNext (done ++ t ∷ []) place sets arity wanted x). ⊎_elim
-        (λ c. Contains-append_left all (y ∷ []) x ((exact x).1 (inr (record { row = n.row; has = c; fits = n.fits; arity = n.arity; wanted = n.wanted; is = n.is }))))
+        (λ (n : IsNext (done ++ t ∷ []) place sets others arity wanted x). ⊎_elim
+        (λ c. Contains-append_left all (y ∷ []) x ((exact x).1 (inr (record { row = n.row; has = c; fits = n.fits; on = n.on; arity = n.arity; wanted = n.wanted; is = n.is }))))
         (λ same. subst (Contains (all ++ y ∷ [])) (at ∙ (ap (λ (u : Trans). get_or u.args (place + length sets) u.to) same ∙ n.is)) (Contains-push all y))
         (Contains-push_cases done t n.row n.has))
         h),
   )
 
-pub no_row : {place arity : ℕ} {sets : List (List ℕ)} {wanted : List ℕ} (old : List ℕ) → HasNext old [] place sets arity wanted old
-no_row {place} {arity} {sets} {wanted} old x = (λ c. inl c, λ h. ⊎_elim (λ c. c) (λ (n : IsNext [] place sets arity wanted x). absurd (none n.row n.has)) h)
+pub no_row : {place arity : ℕ} {sets others : List (List ℕ)} {wanted : List ℕ} (old : List ℕ) → HasNext old [] place sets others arity wanted old
+no_row {place} {arity} {sets} {others} {wanted} old x = (λ c. inl c, λ h. ⊎_elim (λ c. c) (λ (n : IsNext [] place sets others arity wanted x). absurd (none n.row n.has)) h)
 
 -- one more state of the first set
-pub no_state : {place arity : ℕ} {sets : List (List ℕ)} {wanted : List ℕ} (rows : List Trans) (old : List ℕ) → HasNext old rows place ([] ∷ sets) arity wanted old
-no_state {place} {arity} {sets} {wanted} rows old x = (λ c. inl c, λ h. ⊎_elim (λ c. c) (λ (n : IsNext rows place ([] ∷ sets) arity wanted x). absurd (none n.fits.0 n.fits.2)) h)
+pub no_state : {place arity : ℕ} {sets others : List (List ℕ)} {wanted : List ℕ} (rows : List Trans) (old : List ℕ) → HasNext old rows place ([] ∷ sets) others arity wanted old
+no_state {place} {arity} {sets} {others} {wanted} rows old x = (λ c. inl c, λ h. ⊎_elim (λ c. c) (λ (n : IsNext rows place ([] ∷ sets) others arity wanted x). absurd (none n.fits.0 n.fits.2)) h)
 
-pub state_taken : {place arity : ℕ} {sets : List (List ℕ)} {wanted : List ℕ} (rows fewer : List Trans) (done : List ℕ) (s : ℕ) (old all next : List ℕ) →
-    ((t : Trans) → Contains fewer t ↔ (Contains rows t × (key_of place t.args ≡ suc s))) → HasNext old rows place (done ∷ sets) arity wanted all →
-    HasNext all fewer (place + 1) sets arity wanted next → HasNext old rows place ((done ++ s ∷ []) ∷ sets) arity wanted next
-state_taken {place} {arity} {sets} {wanted} rows fewer done s old all next members exact more x = (
+pub state_taken : {place arity : ℕ} {sets others : List (List ℕ)} {wanted : List ℕ} (rows fewer : List Trans) (done : List ℕ) (s : ℕ) (old all next : List ℕ) →
+    ((t : Trans) → Contains fewer t ↔ (Contains rows t × (key_of place t.args ≡ suc s))) → HasNext old rows place (done ∷ sets) others arity wanted all →
+    HasNext all fewer (place + 1) sets others arity wanted next → HasNext old rows place ((done ++ s ∷ []) ∷ sets) others arity wanted next
+state_taken {place} {arity} {sets} {others} {wanted} rows fewer done s old all next members exact more x = (
   λ c. ⊎_elim
       (λ c. ⊎_elim (λ before. inl before) (λ n. inr (wider n)) ((exact x).0 c))
       (λ n. inr (whole n))
@@ -146,28 +146,30 @@ state_taken {place} {arity} {sets} {wanted} rows fewer done s old all next membe
     next' : suc place ≡ place + 1
     next' = omega arith
 
-    wider : IsNext rows place (done ∷ sets) arity wanted x → IsNext rows place ((done ++ s ∷ []) ∷ sets) arity wanted x
-    wider n = record { row = n.row; has = n.has; fits = (n.fits.0, n.fits.1, Contains-append_left done (s ∷ []) n.fits.0 n.fits.2, n.fits.3); arity = n.arity; wanted = n.wanted; is = n.is }
+    wider : IsNext rows place (done ∷ sets) others arity wanted x → IsNext rows place ((done ++ s ∷ []) ∷ sets) others arity wanted x
+    wider n = record { row = n.row; has = n.has; fits = (n.fits.0, n.fits.1, Contains-append_left done (s ∷ []) n.fits.0 n.fits.2, n.fits.3); on = n.on; arity = n.arity; wanted = n.wanted; is = n.is }
 
-    whole : IsNext fewer (place + 1) sets arity wanted x → IsNext rows place ((done ++ s ∷ []) ∷ sets) arity wanted x
+    whole : IsNext fewer (place + 1) sets others arity wanted x → IsNext rows place ((done ++ s ∷ []) ∷ sets) others arity wanted x
     whole n =
         let m = (members n.row).0 n.has in
         record {
           row = n.row;
           has = m.0;
           fits = (s, m.1, Contains-push done s, subst (λ k. FitsFrom k sets n.row.args) (sym next') n.fits);
+          on = subst (λ k. FitsFrom k others n.row.args) (sym far) n.on;
           arity = n.arity;
           wanted = n.wanted;
           is = ap (λ k. get_or n.row.args k n.row.to) far ∙ n.is;
         }
 
-    split : IsNext rows place ((done ++ s ∷ []) ∷ sets) arity wanted x → Contains next x
+    split : IsNext rows place ((done ++ s ∷ []) ∷ sets) others arity wanted x → Contains next x
     split n = ⊎_elim
-        (λ c. (more x).1 (inl ((exact x).1 (inr (record { row = n.row; has = n.has; fits = (n.fits.0, n.fits.1, c, n.fits.3); arity = n.arity; wanted = n.wanted; is = n.is })))))
+        (λ c. (more x).1 (inl ((exact x).1 (inr (record { row = n.row; has = n.has; fits = (n.fits.0, n.fits.1, c, n.fits.3); on = n.on; arity = n.arity; wanted = n.wanted; is = n.is })))))
         (λ same. (more x).1 (inr (record {
           row = n.row;
           has = (members n.row).1 (n.has, n.fits.1 ∙ ap suc (sym same));
           fits = subst (λ k. FitsFrom k sets n.row.args) next' n.fits.3;
+          on = subst (λ k. FitsFrom k others n.row.args) far n.on;
           arity = n.arity;
           wanted = n.wanted;
           is = ap (λ k. get_or n.row.args k n.row.to) (sym far) ∙ n.is;
@@ -175,27 +177,27 @@ state_taken {place} {arity} {sets} {wanted} rows fewer done s old all next membe
         (Contains-push_cases done s n.fits.0 n.fits.2)
 
 -- of all transitions of the symbol
-pub next_of_symbol : (trans rows : List Trans) (f arity : ℕ) (sets : List (List ℕ)) (wanted old all : List ℕ) → old ≡ [] → ((t : Trans) → Contains rows t ↔ (Contains trans t × (t.sym ≡ f))) →
-    HasNext old rows 0 sets arity wanted all → (x : ℕ) → Contains all x ↔ IsNextAt trans f sets arity wanted x
-next_of_symbol trans rows f arity sets wanted old all e members exact x = (
+pub next_of_symbol : (trans rows : List Trans) (f arity : ℕ) (sets others : List (List ℕ)) (wanted old all : List ℕ) → old ≡ [] → ((t : Trans) → Contains rows t ↔ (Contains trans t × (t.sym ≡ f))) →
+    HasNext old rows 0 sets others arity wanted all → (x : ℕ) → Contains all x ↔ IsNextAt trans f sets others arity wanted x
+next_of_symbol trans rows f arity sets others wanted old all e members exact x = (
   λ c. ⊎_elim (λ before. absurd (none x (subst (λ xs. Contains xs x) e before)))
-      (λ (n : IsNext rows 0 sets arity wanted x).
+      (λ (n : IsNext rows 0 sets others arity wanted x).
       let m = (members n.row).0 n.has in
-      record { next = record { row = n.row; has = m.0; fits = n.fits; arity = n.arity; wanted = n.wanted; is = n.is }; symbol = m.1 })
+      record { next = record { row = n.row; has = m.0; fits = n.fits; on = n.on; arity = n.arity; wanted = n.wanted; is = n.is }; symbol = m.1 })
       ((exact x).0 c),
-  λ h. (exact x).1 (inr (record { row = h.next.row; has = (members h.next.row).1 (h.next.has, h.symbol); fits = h.next.fits; arity = h.next.arity; wanted = h.next.wanted; is = h.next.is })),
+  λ h. (exact x).1 (inr (record { row = h.next.row; has = (members h.next.row).1 (h.next.has, h.symbol); fits = h.next.fits; on = h.next.on; arity = h.next.arity; wanted = h.next.wanted; is = h.next.is })),
 )
 
 -- one more set
-pub at_more : {place arity : ℕ} {wanted : List ℕ} (rows : List Trans) (sets : List (List ℕ)) (d set : List ℕ) (i : ℕ) (old all : List ℕ) → place < length sets → set ≡ get_or sets place d → length set ≤ i →
-    HasNext old rows place (take i set ∷ drop (place + 1) sets) arity wanted all → HasNext old rows place (drop place sets) arity wanted all
-at_more {place} {arity} {wanted} rows sets d set i old all l e end h =
-    subst (λ (ss : List (List ℕ)). HasNext old rows place ss arity wanted all)
+pub at_more : {place arity : ℕ} {others : List (List ℕ)} {wanted : List ℕ} (rows : List Trans) (sets : List (List ℕ)) (d set : List ℕ) (i : ℕ) (old all : List ℕ) → place < length sets → set ≡ get_or sets place d → length set ≤ i →
+    HasNext old rows place (take i set ∷ drop (place + 1) sets) others arity wanted all → HasNext old rows place (drop place sets) others arity wanted all
+at_more {place} {arity} {others} {wanted} rows sets d set i old all l e end h =
+    subst (λ (ss : List (List ℕ)). HasNext old rows place ss others arity wanted all)
     ((λ k. (take_all i set end ∙ e) k ∷ drop (place + 1) sets) ∙ sym (drop_more sets place d l)) h
 
-pub state_more : {place arity : ℕ} {sets : List (List ℕ)} {wanted : List ℕ} (rows fewer : List Trans) (set : List ℕ) (i d s : ℕ) (old all next : List ℕ) → i < length set → s ≡ get_or set i d →
-    ((t : Trans) → Contains fewer t ↔ (Contains rows t × (key_of place t.args ≡ suc s))) → HasNext old rows place (take i set ∷ sets) arity wanted all →
-    HasNext all fewer (place + 1) sets arity wanted next → HasNext old rows place (take (i + 1) set ∷ sets) arity wanted next
-state_more {place} {arity} {sets} {wanted} rows fewer set i d s old all next l e members exact more =
-    subst (λ (xs : List ℕ). HasNext old rows place (xs ∷ sets) arity wanted next) ((λ k. take i set ++ e k ∷ []) ∙ sym (take_more set i d l))
+pub state_more : {place arity : ℕ} {sets others : List (List ℕ)} {wanted : List ℕ} (rows fewer : List Trans) (set : List ℕ) (i d s : ℕ) (old all next : List ℕ) → i < length set → s ≡ get_or set i d →
+    ((t : Trans) → Contains fewer t ↔ (Contains rows t × (key_of place t.args ≡ suc s))) → HasNext old rows place (take i set ∷ sets) others arity wanted all →
+    HasNext all fewer (place + 1) sets others arity wanted next → HasNext old rows place (take (i + 1) set ∷ sets) others arity wanted next
+state_more {place} {arity} {sets} {others} {wanted} rows fewer set i d s old all next l e members exact more =
+    subst (λ (xs : List ℕ). HasNext old rows place (xs ∷ sets) others arity wanted next) ((λ k. take i set ++ e k ∷ []) ∙ sym (take_more set i d l))
     (state_taken rows fewer (take i set) s old all next members exact more)

@@ -1,5 +1,5 @@
-use Rattle.std.proofs.Common.{◌-◌, length}
+use Rattle.std.proofs.Common.{length}
 use Rattle.state_match.proofs.rows.+fit_from.Given as goal
 
 abbrev pub decreases-fit_from : goal.decreases-fit_from
-decreases-fit_from l = length l.sets.now - l.place
+decreases-fit_from l = length l.sets.now

@@ -18,12 +18,12 @@ loop-t-preserved c =
     let old = c.args.found.now.items in
     elim c.if-is_wanted.branch [
       | then-is_wanted+in_ok-push w ↦
-          rw more (subst (HasNext old (done ++ t ∷ []) c.args.place sets c.args.arity c.args.wanted.now) (sym (ap (λ v. v.items) w.found-is))
+          rw more (subst (HasNext old (done ++ t ∷ []) c.args.place sets c.args.others.now c.args.arity c.args.wanted.now) (sym (ap (λ v. v.items) w.found-is))
           (row_taken done t old c.loop-t.found.items w.push.new.self.items w.next_at.result c.loop-t.invariant (c.is_wanted.ensures.0 w.if-is_wanted.true) (w.next_at.ensures ∙ ap (λ k. get_or t.args k t.to) end) w.in_ok-push.ensures.items))
       | else-is_wanted w ↦
-          rw more (subst (HasNext old (done ++ t ∷ []) c.args.place sets c.args.arity c.args.wanted.now) (sym (ap (λ v. v.items) w.found-is))
+          rw more (subst (HasNext old (done ++ t ∷ []) c.args.place sets c.args.others.now c.args.arity c.args.wanted.now) (sym (ap (λ v. v.items) w.found-is))
           (row_skipped done t old c.loop-t.found.items c.loop-t.invariant (λ f. true≢false (sym (c.is_wanted.ensures.1 f) ∙ w.if-is_wanted.false))))
     ]
 
 pub returns : goal.returns
-returns c = subst (λ (rows : List Trans). HasNext c.args.found.now.items rows c.args.place (drop c.args.place c.args.sets.now) c.args.arity c.args.wanted.now c.loop-t.found.items) (take_all c.loop-t.t-index c.args.rows.now c.loop-t-test.false) c.loop-t.invariant
+returns c = subst (λ (rows : List Trans). HasNext c.args.found.now.items rows c.args.place (drop c.args.place c.args.sets.now) c.args.others.now c.args.arity c.args.wanted.now c.loop-t.found.items) (take_all c.loop-t.t-index c.args.rows.now c.loop-t-test.false) c.loop-t.invariant

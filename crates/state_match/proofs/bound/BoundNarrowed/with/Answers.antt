@@ -19,4 +19,5 @@ invariant_of-result c =
       c.self.invariant.2,
       c.self.invariant.3,
       c.self.invariant.4,
+      c.self.invariant.5,
     )
