@@ -44,7 +44,8 @@ fn add_next(
     requires within { place ≤ length sets.now }
     requires sorted { IsStrictlySortedBy trans_cmp rows.now }
     requires alike { AreAlike place rows.now }
-    ensures { OnOk result (HasNext found.old.items rows.now place (drop place sets.now) others.now arity wanted.now found.new.items) }
+    ensures { OnOk result
+        (HasNext found.old.items rows.now place (drop place sets.now) others.now arity wanted.now found.new.items) }
 {
     if place == sets.len() {
         return add_each(rows, place, sets, others, arity, wanted, found);
@@ -82,7 +83,8 @@ fn add_each(
     found: &mut Vec<u32>,
 ) -> Result<(), AllocError>
     requires { place ≤ length sets.now }
-    ensures { OnOk result (HasNext found.old.items rows.now place (drop place sets.now) others.now arity wanted.now found.new.items) }
+    ensures { OnOk result
+        (HasNext found.old.items rows.now place (drop place sets.now) others.now arity wanted.now found.new.items) }
 {
     for t in rows {
         if is_wanted(t, place, sets, others, arity, wanted) {
