@@ -5,4 +5,5 @@ pub mod MarkedSets
 pub mod Reaching
 pub mod Belows
 pub mod JoinLaws
+pub mod Edges
 pub mod Outside

@@ -5,5 +5,6 @@ pub mod Rests
 pub mod Collected
 pub mod Rows
 pub mod Belows
+pub mod Edges
 pub mod Sets
 pub mod Laws

@@ -1,11 +1,12 @@
 //! A pattern whose first variables stand for states.
 ghost use Rattle.std.specs.Prelude.{◌≡◌, ◌↔◌, ℕ, [], Contains, IfOk, IfSome};
 ghost use Rattle.state_match.specs.Belows.{IsBelow};
-ghost use Rattle.state_match.specs.Rows.{IsFirst, IsReverse, RunsFor};
+ghost use Rattle.state_match.specs.Edges.{IsEdge};
+ghost use Rattle.state_match.specs.Rows.{IsReverse, RunsFor};
 
 use crate::assigned::assigned_states;
 use crate::below::Below;
-use crate::join::narrow_whole;
+use crate::edge::{Edge, narrow_along};
 use crate::rows::no_states;
 use crate::tabled::Tabled;
 use crate::turned::Turned;
@@ -24,7 +25,7 @@ pub(crate) struct Bound<'a> {
     runs: &'a Tabled<'a>,
     reversed: &'a Turned,
     all: &'a StateSet,
-    first: &'a Option<StateSet>,
+    edge: &'a Option<Edge>,
     pattern: &'a Pattern,
     below: &'a Below,
     vars: &'a [u32],
@@ -37,7 +38,8 @@ impl<'a> Model for Bound<'a> {
     ghost use Rattle.ranked_terms.specs.contracts.term.Pattern as patterns;
     ghost use Rattle.state_match.specs.Rests.{Rest};
     ghost use Rattle.state_match.specs.Belows.{IsBelow};
-    ghost use Rattle.state_match.specs.Rows.{IsFirst, IsReverse, RunsFor};
+    ghost use Rattle.state_match.specs.Edges.{IsEdge};
+    ghost use Rattle.state_match.specs.Rows.{IsReverse, RunsFor};
 
     ghost Value = { Rest };
 
@@ -55,7 +57,7 @@ impl<'a> Model for Bound<'a> {
         × RunsFor b.plain b.automaton.now b.runs.now
         × IsReverse b.runs.now b.reversed.now
         × (b.all.now ≡ b.runs.now.states)
-        × IfSome b.first.now (IsFirst b.runs.now b.all.now b.pattern.now)
+        × IfSome b.edge.now (IsEdge b.runs.now b.all.now b.pattern.now)
         × IsBelow b.runs.now b.pattern.now b.below.now };
 }
 
@@ -68,7 +70,7 @@ impl<'a> Bound<'a> {
         runs: &'a Tabled<'a>,
         reversed: &'a Turned,
         all: &'a StateSet,
-        first: &'a Option<StateSet>,
+        edge: &'a Option<Edge>,
         pattern: &'a Pattern,
         below: &'a Below,
         vars: &'a [u32],
@@ -76,7 +78,7 @@ impl<'a> Bound<'a> {
         requires runs { RunsFor plain automaton.now runs.now }
         requires reverse { IsReverse runs.now reversed.now }
         requires all { all.now ≡ runs.now.states }
-        requires first { IfSome first.now (IsFirst runs.now all.now pattern.now) }
+        requires edge { IfSome edge.now (IsEdge runs.now all.now pattern.now) }
         requires below { IsBelow runs.now pattern.now below.now }
         ensures { result ≡ record {
           plain = plain;
@@ -93,7 +95,7 @@ impl<'a> Bound<'a> {
             runs,
             reversed,
             all,
-            first,
+            edge,
             pattern,
             below,
             vars,
@@ -110,14 +112,15 @@ impl<'a> Narrowed for Bound<'a> {
     fn candidates(&self) -> Result<StateSet, AllocError> {
         let every = self.runs.states();
         let bound = self.states.as_slice();
-        match narrow_whole(
+        match narrow_along(
             self.alloc,
             self.runs,
             self.reversed,
             self.all,
             self.vars,
             bound,
-            self.first.as_ref(),
+            self.all,
+            self.edge.as_ref(),
             self.pattern,
             self.below,
         )? {
@@ -139,7 +142,7 @@ impl<'a> Narrowed for Bound<'a> {
             runs: self.runs,
             reversed: self.reversed,
             all: self.all,
-            first: self.first,
+            edge: self.edge,
             pattern: self.pattern,
             below: self.below,
             vars: self.vars,

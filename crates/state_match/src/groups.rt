@@ -7,7 +7,7 @@ ghost use Rattle.state_match.specs.Groups.{group_of, TookAll, TookFirst, TookUpT
 
 use crate::below::Below;
 use crate::bound::Bound;
-use crate::join::first_wanted;
+use crate::edge::Edge;
 use crate::matcher::Matcher;
 use crate::plain::runs_for;
 use crate::turned::Turned;
@@ -140,9 +140,9 @@ fn each_by<V: Groups>(
     let tabled = matcher.tabled();
     let all = matcher.all();
     let below = Below::of(alloc, tabled, all, pattern)?;
-    let first = first_wanted(alloc, tabled, turned, all, pattern, &below)?;
+    let edge = Edge::of(alloc, tabled, turned, all, all, pattern, &below)?;
     let start = Bound::new(
-        alloc, plain, automaton, tabled, turned, all, &first, pattern, &below, vars,
+        alloc, plain, automaton, tabled, turned, all, &edge, pattern, &below, vars,
     );
     let mut assignment = Vec::new(alloc);
     walk(&start, vars.len(), &mut assignment, visitor)

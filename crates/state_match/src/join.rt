@@ -5,7 +5,7 @@ ghost use Rattle.ta_core.specs.Closure.{state_in};
 ghost use Rattle.ta_core.specs.Runs.{Runs};
 ghost use Rattle.ta_core.specs.Reached.{EntersAndReaches};
 ghost use Rattle.state_match.specs.Belows.{IsBelow};
-ghost use Rattle.state_match.specs.Rows.{IsClosedBack, IsFirst, IsFirstOf, IsNextAt, IsReverse};
+ghost use Rattle.state_match.specs.Rows.{IsClosedBack, IsNextAt, IsReverse};
 
 use crate::below::Below;
 use crate::known::Known;
@@ -136,101 +136,11 @@ pub(crate) fn narrow(
     }
 }
 
-/// As `narrow` where all states are wanted of the pattern, and these of its first argument, where that is known.
-pub(crate) fn narrow_whole(
-    alloc: Global,
-    automaton: &Tabled,
-    reversed: &Turned,
-    all: &StateSet,
-    vars: &[u32],
-    bound: &[u32],
-    first: Option<&StateSet>,
-    pattern: &Pattern,
-    below: &Below,
-) -> Result<Option<StateSet>, AllocError>
-    requires all { all.now ≡ automaton.now.states }
-    requires reverse { IsReverse automaton.now reversed.now }
-    requires first { IfSome first (λ first. IsFirst automaton.now all.now pattern.now first.now) }
-    requires below { IsBelow automaton.now pattern.now below.now }
-    ensures { IfOk result (λ states. IfSome states (λ states. IsClosedBack automaton.now all.now →
-        (s : ℕ) (rest : List ℕ) (q : ℕ) → Contains all.now q →
-        Runs automaton.now (assigned (state_in vars.now (bound.now ++ s ∷ rest)) pattern.now) q → Contains states s)) }
-{
-    if let Some(first) = first {
-        if let Some(arg) = first_of(pattern) {
-            let deeper = &below.args[0];
-            if let Some(states) = narrow(
-                alloc, automaton, reversed, all, vars, bound, first, arg, deeper,
-            )? {
-                return Ok(Some(states));
-            }
-        }
-    }
-    narrow(
-        alloc, automaton, reversed, all, vars, bound, all, pattern, below,
-    )
-}
-
-/// What is wanted of the first argument of the pattern where all states are wanted of the pattern, whatever its variables stand
-/// for, or none where that is needed once at most. The only error is running out of memory.
-pub(crate) fn first_wanted(
-    alloc: Global,
-    automaton: &Tabled,
-    reversed: &Turned,
-    all: &StateSet,
-    pattern: &Pattern,
-    below: &Below,
-) -> Result<Option<StateSet>, AllocError>
-    requires all { all.now ≡ automaton.now.states }
-    requires reverse { IsReverse automaton.now reversed.now }
-    requires below { IsBelow automaton.now pattern.now below.now }
-    ensures { IfOk result (λ first. IfSome first (IsFirst automaton.now all.now pattern.now)) }
-{
-    let Pattern::App(sym, args) = pattern else {
-        return Ok(None);
-    };
-    if !has_deep_first(args.as_slice()) {
-        return Ok(None);
-    }
-    let count = args.as_slice().len();
-    let column = column(
-        alloc,
-        automaton,
-        reversed,
-        all,
-        *sym,
-        &[],
-        &below.sets,
-        count,
-        all,
-    )?;
-    let first = reversed.closed(column)?;
-    Ok(Some(first))
-}
-
-/// The first argument of the pattern, where it has one.
-fn first_of(pattern: &Pattern) -> Option<&Pattern>
-    ensures { IfSome result (λ arg. IsFirstOf pattern.now arg.now) }
-{
-    match pattern {
-        Pattern::Var(_) => None,
-        Pattern::App(_, args) => args.as_slice().first(),
-    }
-}
-
-/// Whether the first of the patterns has arguments.
-fn has_deep_first(patterns: &[Pattern]) -> bool {
-    match patterns.first() {
-        Some(Pattern::App(_, args)) => !args.as_slice().is_empty(),
-        _ => false,
-    }
-}
-
 /// States among which is each one that stands as the next argument in a transition of the symbol with so many arguments to a
 /// wanted state, behind first arguments from these sets, where the arguments from it on are from the others. Where there are no
 /// first ones, and fewer states are wanted than the symbol has transitions, these are looked up by their targets. The only
 /// error is running out of memory.
-fn column(
+pub(crate) fn column(
     alloc: Global,
     automaton: &Tabled,
     reversed: &Turned,

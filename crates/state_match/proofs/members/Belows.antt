@@ -1,6 +1,6 @@
 -- What a pattern can run to at all.
-use Rattle.std.proofs.Common.{◌≡◌, ◌↔◌, ◌<◌, ◌≤◌, ◌+◌, ℕ, zero, suc, List, [], ◌∷◌, ◌++◌, length, take, drop, map, get_or, refl, sym, ap, ◌∙◌, subst, Some, None, arith}
-use Rattle.std.specs.List.{Contains, All, AllZip, slice_get}
+use Rattle.std.proofs.Common.{◌≡◌, ◌↔◌, ◌<◌, ◌≤◌, ◌+◌, ℕ, zero, suc, List, [], ◌∷◌, ◌++◌, length, take, drop, map, get_or, refl, sym, ap, ◌∙◌, subst, Some}
+use Rattle.std.specs.List.{Contains, AllZip, slice_get}
 use Rattle.std.proofs.lemmas.List.{take_more, take_all}
 use Rattle.std.proofs.lemmas.Option.{slice_get_read}
 use Rattle.ranked_terms.specs.Terms.{assigned}
@@ -8,7 +8,7 @@ use Rattle.ranked_terms.specs.declared.term.Pattern.{Pattern, Var, App as App'}
 use Rattle.ranked_terms.specs.declared.term.Pattern.TheOpen as pattern_layer
 use Rattle.ranked_terms.specs.declared.term.Pattern.TheVariants.{rolls-App}
 use Rattle.ranked_terms.specs.declared.term.Pattern.TheViews.{out-Pattern, out-roll-Pattern}
-use Rattle.ranked_terms.specs.declared.term.Config.{Config, App}
+use Rattle.ranked_terms.specs.declared.term.Config.{Config}
 use Rattle.ranked_terms.specs.lemmas.TermLaws.{assigned_app}
 use Rattle.ta_core.specs.TreeAutomaton.{TreeAutomaton, IsSound}
 use Rattle.ta_core.specs.Runs.{Runs, RunsAll}
@@ -93,7 +93,7 @@ module _ (A : TreeAutomaton) where
   arguments_app : (f : ℕ) (ps : List Pattern) → arguments (out-Pattern (App' f ps)) ≡ ps
   arguments_app f ps = ap (λ p. arguments (out-Pattern p)) (sym (rolls-App f ps)) ∙ ap arguments (out-roll-Pattern (pattern_layer.App f ps))
 
-  same_arguments : (f g : ℕ) (ps qs : List Pattern) → App' f ps ≡ App' g qs → ps ≡ qs
+  pub same_arguments : (f g : ℕ) (ps qs : List Pattern) → App' f ps ≡ App' g qs → ps ≡ qs
   same_arguments f g ps qs e = sym (arguments_app f ps) ∙ (ap (λ p. arguments (out-Pattern p)) e ∙ arguments_app g qs)
 
   pub sets_below : (p : Pattern) (b : Below) → IsBelow A p b → (f : ℕ) (args : List Pattern) → p ≡ App' f args → AllZip (RunsInto A) args (out-Below b).sets.items

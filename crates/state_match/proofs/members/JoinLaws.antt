@@ -20,7 +20,7 @@ use Rattle.ta_core.specs.lemmas.RunStates.{AreExact, exact_more, runs_of_app, en
 use Rattle.list_laws.proofs.Zips.{zip_length}
 use Rattle.state_match.specs.Rows.{FitsFrom, IsNextAt, IsClosedBack, IsFirst, IsFirstOf, IsReverse, turn, turn_row, RunsFor}
 use Rattle.state_match.specs.Belows.{RunsInto}
-use Rattle.state_match.proofs.members.Members.{here, there, none, map_has, map_had}
+use Rattle.state_match.proofs.members.Members.{here, there, map_has, map_had}
 use Rattle.state_match.proofs.members.Belows.{Into, into_given, into_runs, zip_from}
 
 -- ---- sets of states at their places

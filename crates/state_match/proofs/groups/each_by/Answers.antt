@@ -19,8 +19,8 @@ returns-clause-err g c = from_start c.args.automaton.now c.args.vars.now c.args.
     c.new-start.result c.new-start.ensures c.new-assignment.result.items c.new-assignment.ensures.items
     (λ P before. OnErr c.walk.result (TookFirst g.V.Groups.took P before c.args.visitor.now c.walk.new.visitor ⊎ TookUpTo g.V.Groups.took g.V.Groups.broke P before c.args.visitor.now c.walk.new.visitor)) c.walk.ensures.err
 
-pub returns-in_err-first-clause-err : goal.returns-in_err-first-clause-err
-returns-in_err-first-clause-err g c = on_err_from c.from_residual-in_err-first.result (inl took_none)
+pub returns-in_err-edge-clause-err : goal.returns-in_err-edge-clause-err
+returns-in_err-edge-clause-err g c = on_err_from c.from_residual-in_err-edge.result (inl took_none)
 
 pub returns-in_err-below-clause-err : goal.returns-in_err-below-clause-err
 returns-in_err-below-clause-err g c = on_err_from c.from_residual.result (inl took_none)

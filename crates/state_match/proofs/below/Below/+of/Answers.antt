@@ -1,6 +1,5 @@
-use Rattle.std.proofs.Common.{List, ap}
+use Rattle.std.proofs.Common.{ap}
 use Rattle.state_match.specs.Belows.{IsBelow, RunsInto}
-use Rattle.state_match.specs.declared.known.Known.{Known}
 use Rattle.state_match.specs.declared.below.Below.{Below}
 use Rattle.state_match.specs.declared.below.Below.TheOpen.{Below-F}
 use Rattle.state_match.specs.declared.below.Below.TheViews.{out-roll-Below}
