@@ -31,6 +31,10 @@ Families:
   dense     one rule s(f(x,y)) -> f(s(x),s(y)), and half as many transitions of f as there are states
   flat      one rule whose two sides are f(x,y), and twice as many transitions of f as there are states: they match once each
   deep      the same with f(f(x,y),z): each transition matches with those from its target
+  left      the same with f(f(f(x,y),z),w)
+  ending    one rule over so many variables, c(x0,c(x1,..h(x15))), over three states that c joins in all ways, and no
+            transition of h: no prefix of an assignment has a match
+  many      so many rules f(a0,x) -> f(a1,x), .. on one symbol, and a transition of f for each constant
   pairs     one rule f(x,y) -> y, and 32 open pairs for each state but a few
   rounds    so many chains of rules c0 -> c1, .., c17 -> c18, from each first constant: one state and up to 18 epsilon
             transitions a chain and a round, in 18 rounds
@@ -219,7 +223,7 @@ def both_sides(count, chance, pattern):
     for _ in range(2 * count):
         left, right, target = (chance.randrange(count) for _ in range(3))
         transitions.append(f"f(q{left},q{right}) -> q{target}")
-    head = f"Ops a:0 f:2\nVars x y z\nTRS R\n{pattern} -> {pattern}\n"
+    head = f"Ops a:0 f:2\nVars x y z w\nTRS R\n{pattern} -> {pattern}\n"
     return head + automaton("A", states, transitions, ["q0"], chance)
 
 
@@ -229,6 +233,30 @@ def flat(count, chance):
 
 def deep(count, chance):
     return both_sides(count, chance, "f(f(x,y),z)")
+
+
+def left(count, chance):
+    return both_sides(count, chance, "f(f(f(x,y),z),w)")
+
+
+def ending(count, chance):
+    names = [f"x{i}" for i in range(count)]
+    side = f"h({names[-1]})"
+    for name in reversed(names[:-1]):
+        side = f"c({name},{side})"
+    states = ["q0", "q1", "q2"]
+    transitions = [f"a -> {state}" for state in states]
+    transitions += [f"c({one},{other}) -> {target}" for one in states for other in states for target in states]
+    head = f"Ops a:0 h:1 c:2\nVars {' '.join(names)}\nTRS R\n{side} -> a\n"
+    return head + automaton("A", states, transitions, ["q0"], chance)
+
+
+def many(count, chance):
+    symbols = " ".join(f"a{i}:0" for i in range(count))
+    rules = "".join(f"f(a{i},x) -> f(a{(i + 1) % count},x)\n" for i in range(count))
+    transitions = [f"a{i} -> q{i}" for i in range(count)] + [f"f(q{i},q{i}) -> q0" for i in range(count)]
+    head = f"Ops f:2 {symbols}\nVars x\nTRS R\n{rules}"
+    return head + automaton("A", [f"q{i}" for i in range(count)], transitions, ["q0"], chance)
 
 
 def pairs(count, chance):
@@ -319,6 +347,9 @@ FAMILIES = [
     (dense, [500, 1000, 2000]),
     (flat, [500, 1000, 2000]),
     (deep, [500, 1000, 2000]),
+    (left, [500, 1000, 2000]),
+    (ending, [4, 8, 16]),
+    (many, [1000, 2000, 4000]),
     (pairs, [750, 1500, 3000]),
     (rounds, [50, 100, 200]),
     (forking, [7, 8, 9]),
