@@ -1,5 +1,5 @@
 -- Where the runs of an equation's sides end. This serves private contracts alone.
-use Rattle.std.specs.Prelude.{◌≡◌, ◌↔◌, ◌⊎◌, ℕ, ◌==◌, true, List, ◌++◌, map, slice_index, if◌then◌else◌}
+use Rattle.std.specs.Prelude.{◌≡◌, ◌↔◌, ◌⊎◌, ℕ, ◌==◌, true, List, [], ◌++◌, map, slice_index, if◌then◌else◌}
 use Rattle.std.specs.List.{Contains, position_or_len}
 use Rattle.ranked_terms.specs.Terms.{variables_of}
 use Rattle.ranked_terms.specs.declared.term.Pattern.{Pattern}
@@ -17,6 +17,10 @@ use Rattle.eq_merge.specs.declared.ends.Collecting.{Collecting}
 -- the variables that stand in both sides
 abbrev pub AreShared : RewriteEquation → List ℕ → Type 0
 AreShared e shared = (v : ℕ) → Contains shared v ↔ (Contains (variables_of e.left) v × Contains (variables_of e.right) v)
+
+-- the same automaton without its epsilon transitions
+abbrev pub without_eps : TreeAutomaton → TreeAutomaton
+without_eps A = record A { eps = [] }
 
 -- the pattern runs to the state without epsilon transitions, by states for its variables, of which the shared ones have these
 pub record EndsAt (A : TreeAutomaton) (p : Pattern) (shared : List ℕ) (states : List ℕ) (q : ℕ) : Type 0 where

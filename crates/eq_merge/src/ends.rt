@@ -1,13 +1,14 @@
 //! Where the runs of an equation's sides end: each side is matched once, and the ends are found by the states of the variables
 //! that stand in both sides.
-ghost use Rattle.std.specs.Prelude.{◌≡◌, ◌↔◌, ◌≤◌, ◌==◌, ℕ, length, filter, Contains, IfOk};
+ghost use Rattle.std.specs.Prelude.{◌≡◌, ◌↔◌, ◌≤◌, ◌==◌, ℕ, [], length, filter, Contains, IfOk};
 ghost use Rattle.std.specs.List.{list_any, position_or_len};
 ghost use Rattle.ranked_terms.specs.Terms.{variables_of};
 ghost use Rattle.ta_core.specs.declared.trans.Trans.{Trans as Transition};
-ghost use Rattle.eq_merge.specs.Ends.{AreEnds, EndsAt, across as opposite, states_at as states_there, places_of as places_among};
+ghost use Rattle.eq_merge.specs.Ends.{AreEnds, EndsAt, without_eps, across as opposite};
+ghost use Rattle.eq_merge.specs.Ends.{states_at as states_there, places_of as places_among};
 
 use ranked_terms::{Pattern, Seq};
-use state_match::{Groups, each_group};
+use state_match::{Groups, Matcher};
 use std::alloc::{AllocError, Global};
 use ta_core::{Args, Automaton, Trans};
 use trs_rules::{Equation, Variables};
@@ -25,19 +26,34 @@ pub(crate) fn across(side: u32) -> u32
     if side == LEFT { RIGHT } else { LEFT }
 }
 
-/// The ends of both sides of an equation, as transitions of an automaton, in which they are looked up: from the states of the
-/// variables that stand in both sides, with the number of the side as symbol, to the state to which the side runs without
-/// epsilon transitions. The only error is running out of memory.
+/// The automaton without its epsilon transitions, in which the sides of equations are matched. The only error is running out of
+/// memory.
+pub(crate) fn plain_part(automaton: &Automaton) -> Result<Automaton, AllocError>
+    ensures { IfOk result (λ plain. plain ≡ without_eps automaton.now) }
+{
+    automaton.without_eps()
+}
+
+/// Whether an equation has variables.
+pub(crate) fn have_variables(equations: &[Equation]) -> bool {
+    equations.iter().any(|equation| !equation.vars().is_empty())
+}
+
+/// The ends of both sides of an equation in an automaton without epsilon transitions, as transitions of an automaton, in which
+/// they are looked up: from the states of the variables that stand in both sides, with the number of the side as symbol, to the
+/// state to which the side runs. The only error is running out of memory.
 pub(crate) fn ends_of(
     alloc: Global,
-    automaton: &Automaton,
+    matcher: &Matcher,
     equation: &Equation,
 ) -> Result<Automaton, AllocError>
-    ensures { IfOk result (λ ends. AreEnds automaton.now equation.now ends) }
+    requires { matcher.now.eps ≡ [] }
+    ensures { IfOk result (λ ends. AreEnds matcher.now equation.now ends) }
 {
     let shared = shared_variables(alloc, equation)?;
-    let left = side_ends(alloc, automaton, equation.left(), LEFT, shared.as_slice())?;
-    let right = side_ends(alloc, automaton, equation.right(), RIGHT, shared.as_slice())?;
+    let left = side_ends(alloc, matcher, equation.left(), LEFT, shared.as_slice())?;
+    let right = side_ends(alloc, matcher, equation.right(), RIGHT, shared.as_slice())?;
+    let automaton = matcher.automaton();
     let mut ends = Automaton::with_states(alloc, automaton.next(), automaton.states())?;
     ends.add_all_trans(left)?;
     ends.add_all_trans(right)?;
@@ -81,14 +97,15 @@ fn is_among(variable: u32, variables: &[u32]) -> bool
 /// The ends of one side, as transitions. The only error is running out of memory.
 fn side_ends(
     alloc: Global,
-    automaton: &Automaton,
+    matcher: &Matcher,
     pattern: &Pattern,
     side: u32,
     shared: &[u32],
 ) -> Result<Seq<Trans>, AllocError>
-    requires { length (variables_of pattern.now) ≤ 16 }
+    requires few { length (variables_of pattern.now) ≤ 16 }
+    requires plain { matcher.now.eps ≡ [] }
     ensures { IfOk result (λ ends. (t : Transition) → Contains ends t ↔
-        ((t.sym ≡ side) × EndsAt automaton.now pattern.now shared.now t.args t.to)) }
+        ((t.sym ≡ side) × EndsAt matcher.now pattern.now shared.now t.args t.to)) }
 {
     let Ok(vars) = Variables::of(pattern) else {
         unreachable!();
@@ -99,14 +116,7 @@ fn side_ends(
         places: places_of(alloc, vars.as_slice(), shared)?,
         ends: Seq::new(alloc),
     };
-    let _on = each_group(
-        alloc,
-        automaton,
-        pattern,
-        vars.as_slice(),
-        true,
-        &mut collecting,
-    )?;
+    let _on = matcher.each_group(pattern, vars.as_slice(), &mut collecting)?;
     Ok(collecting.ends)
 }
 

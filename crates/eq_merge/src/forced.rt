@@ -1,5 +1,5 @@
 //! The list of forced pairs, of which no more is kept than the pairs of one state.
-ghost use Rattle.std.specs.Prelude.{◌≡◌, ◌<◌, ◌++◌, ◌↔◌, ◌⊎◌, ℕ, List, length, map, filter, nat_lt, Contains, IfOk, OnOk};
+ghost use Rattle.std.specs.Prelude.{◌≡◌, ◌<◌, ◌++◌, ◌↔◌, ◌⊎◌, ℕ, List, [], length, map, filter, nat_lt, Contains, IfOk, OnOk};
 ghost use Rattle.std.specs.List.{slice_get, AllZip};
 ghost use Rattle.list_laws.specs.Listings.{IsListing};
 ghost use Rattle.std.specs.Ordering.{nat_cmp};
@@ -8,9 +8,10 @@ ghost use Rattle.eq_merge.specs.Merging.{AreForcedPairs};
 ghost use Rattle.eq_merge.specs.Ends.{AreEnds};
 ghost use Rattle.eq_merge.specs.Rows.{HasMore, LeadsAcross, IsOpposite, AreOpposite};
 
-use crate::ends::{across, ends_of};
+use crate::ends::{across, ends_of, have_variables, plain_part};
 use crate::merging::{each_is_equation, lists_ascend};
 use ranked_terms::Seq;
+use state_match::Matcher;
 use std::alloc::{AllocError, Global};
 use ta_core::laws::runs_are_decided;
 use ta_core::{Automaton, StateSet, Trans};
@@ -71,9 +72,23 @@ fn all_ends(
 ) -> Result<Seq<Automaton>, AllocError>
     ensures { IfOk result (λ all. AllZip (AreEnds a.now) equations.now all) }
 {
+    let plain = plain_part(a)?;
+    let matcher = Matcher::new(alloc, &plain, have_variables(equations))?;
+    each_ends(alloc, &matcher, equations)
+}
+
+/// As `all_ends`, in an automaton without epsilon transitions that is ready for the sides of all equations.
+fn each_ends(
+    alloc: Global,
+    matcher: &Matcher,
+    equations: &[Equation],
+) -> Result<Seq<Automaton>, AllocError>
+    requires { matcher.now.eps ≡ [] }
+    ensures { IfOk result (λ all. AllZip (AreEnds matcher.now) equations.now all) }
+{
     let mut all = Seq::new(alloc);
     for equation in equations {
-        all.push(ends_of(alloc, a, equation)?)?;
+        all.push(ends_of(alloc, matcher, equation)?)?;
     }
     Ok(all)
 }

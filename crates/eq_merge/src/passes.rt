@@ -1,13 +1,14 @@
 //! Passes of merging over the equations: each puts together what the equations equate.
-ghost use Rattle.std.specs.Prelude.{◌≡◌, ◌<◌, ◌≤◌, ℕ, length, All, Contains, OnOk};
+ghost use Rattle.std.specs.Prelude.{◌≡◌, ◌<◌, ◌≤◌, ℕ, [], length, All, Contains, OnOk};
 ghost use Rattle.ta_core.specs.Acceptance.{image};
 ghost use Rattle.ta_core.specs.declared.trans.Trans.{Trans as Transition};
 ghost use Rattle.eq_merge.specs.Joined.{Joined};
 ghost use Rattle.eq_merge.specs.Ends.{AreEquated, AreEquatedBy, IsLed};
 ghost use Rattle.eq_merge.specs.Passes.{IsLeader, IsStep};
 
-use crate::ends::{across, ends_of};
+use crate::ends::{across, ends_of, have_variables, plain_part};
 use crate::renaming::Renaming;
+use state_match::Matcher;
 use std::alloc::{AllocError, Global};
 use ta_core::{Automaton, Growing, Trans};
 use trs_rules::Equation;
@@ -25,29 +26,52 @@ pub(crate) fn join_equated(
     ensures all { OnOk result ((p q : ℕ) →
         AreEquatedBy automaton.now equations.now p q → image classes.new p ≡ image classes.new q) }
 {
+    if equations.is_empty() {
+        return Ok(());
+    }
+    let plain = plain_part(automaton)?;
+    let matcher = Matcher::new(alloc, &plain, have_variables(equations))?;
+    join_each(alloc, &matcher, equations, classes)
+}
+
+/// As `join_equated`, in an automaton without epsilon transitions that is ready for the sides of all equations.
+fn join_each(
+    alloc: Global,
+    matcher: &Matcher,
+    equations: &[Equation],
+    classes: &mut Renaming,
+) -> Result<(), AllocError>
+    requires next { matcher.now.next ≤ length classes.old }
+    requires plain { matcher.now.eps ≡ [] }
+    ensures joined { OnOk result (Joined (AreEquatedBy matcher.now equations.now) classes.old classes.new) }
+    ensures all { OnOk result ((p q : ℕ) →
+        AreEquatedBy matcher.now equations.now p q → image classes.new p ≡ image classes.new q) }
+{
     // For the proof: what runs lead to is a state.
-    let _ = automaton.next();
+    let _ = matcher.automaton().next();
     for equation in equations {
-        join_by(alloc, automaton, equation, classes)?;
+        join_by(alloc, matcher, equation, classes)?;
     }
     Ok(())
 }
 
-/// Puts together whatever the equation equates in the automaton. The only error is running out of memory.
+/// Puts together whatever the equation equates in the automaton, which has no epsilon transitions. The only error is running out
+/// of memory.
 fn join_by(
     alloc: Global,
-    automaton: &Automaton,
+    matcher: &Matcher,
     equation: &Equation,
     classes: &mut Renaming,
 ) -> Result<(), AllocError>
-    requires { automaton.now.next ≤ length classes.old }
-    ensures joined { OnOk result (Joined (AreEquated automaton.now equation.now) classes.old classes.new) }
+    requires next { matcher.now.next ≤ length classes.old }
+    requires plain { matcher.now.eps ≡ [] }
+    ensures joined { OnOk result (Joined (AreEquated matcher.now equation.now) classes.old classes.new) }
     ensures all { OnOk result ((p q : ℕ) →
-        AreEquated automaton.now equation.now p q → image classes.new p ≡ image classes.new q) }
+        AreEquated matcher.now equation.now p q → image classes.new p ≡ image classes.new q) }
 {
     // For the proof: the equation is one.
     let _ = equation.vars();
-    let ends = ends_of(alloc, automaton, equation)?;
+    let ends = ends_of(alloc, matcher, equation)?;
     join_ends(&Growing::on(&ends), ends.trans(), classes)
 }
 

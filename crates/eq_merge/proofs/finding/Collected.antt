@@ -14,6 +14,7 @@ use Rattle.state_match.specs.Groups.{Group, after, TookAll, TookUpTo}
 use Rattle.state_match.specs.Matches.{MatchesAt}
 use Rattle.eq_merge.specs.Ends.{EndsAt, AddsEnds, end_of, states_at, places_of}
 use Rattle.eq_merge.specs.declared.ends.Collecting.{Collecting}
+use Rattle.eq_merge.proofs.finding.PlainParts.{plain_match, any_match}
 
 pub map_more : {X Y : Type 0} (f : X → Y) (xs : List X) (i : ℕ) (d : X) → i < length xs → map f (take (i + 1) xs) ≡ map f (take i xs) ++ f (get_or xs i d) ∷ []
 map_more f xs i d l = ap (map f) (take_more xs i d l) ∙ map-append f (take i xs) (get_or xs i d ∷ [])
@@ -79,12 +80,12 @@ pub states_are : (vars shared σ : List ℕ) → states_at (places_of vars share
 states_are vars [] σ = refl
 states_are vars (v ∷ shared) σ = λ i. slice_index σ (position_or_len (λ w. v == w) vars) ∷ states_are vars shared σ i
 
-pub side_exact : (A : TreeAutomaton) (p : Pattern) (vars shared : List ℕ) (side : ℕ) (u v : Collecting) → vars ≡ variables_of p → u.side ≡ side → u.places ≡ places_of vars shared → u.ends ≡ [] →
-    TookAll AddsEnds (MatchesAt true A vars p) [] u v → (t : Trans) → Contains v.ends t ↔ ((t.sym ≡ side) × EndsAt A p shared t.args t.to)
-side_exact A p vars shared side u v vars-are side-is places-are empty took t =
-    subst (λ vs. TookAll AddsEnds (MatchesAt true A vs p) [] u v → u.places ≡ places_of vs shared → Contains v.ends t ↔ ((t.sym ≡ side) × EndsAt A p shared t.args t.to)) (sym vars-are) exact took places-are
+pub side_exact : (A : TreeAutomaton) → A.eps ≡ [] → (p : Pattern) (vars shared : List ℕ) (side : ℕ) (u v : Collecting) → vars ≡ variables_of p → u.side ≡ side → u.places ≡ places_of vars shared → u.ends ≡ [] →
+    TookAll AddsEnds (MatchesAt false A vars p) [] u v → (t : Trans) → Contains v.ends t ↔ ((t.sym ≡ side) × EndsAt A p shared t.args t.to)
+side_exact A no_eps p vars shared side u v vars-are side-is places-are empty took t =
+    subst (λ vs. TookAll AddsEnds (MatchesAt false A vs p) [] u v → u.places ≡ places_of vs shared → Contains v.ends t ↔ ((t.sym ≡ side) × EndsAt A p shared t.args t.to)) (sym vars-are) exact took places-are
   where
-    exact : TookAll AddsEnds (MatchesAt true A (variables_of p) p) [] u v → u.places ≡ places_of (variables_of p) shared → Contains v.ends t ↔ ((t.sym ≡ side) × EndsAt A p shared t.args t.to)
+    exact : TookAll AddsEnds (MatchesAt false A (variables_of p) p) [] u v → u.places ≡ places_of (variables_of p) shared → Contains v.ends t ↔ ((t.sym ≡ side) × EndsAt A p shared t.args t.to)
     exact all places = (
       λ c. ⊎_elim
           (λ i. absurd (none t (subst (λ es. Contains es t) empty i)))
@@ -95,19 +96,20 @@ side_exact A p vars shared side u v vars-are side-is places-are empty took t =
             o.is.symbol ∙ side-is,
             record {
               σ = g.0.sigma;
-              is_match = ((all.are.each g.0 g.1).states.exact t.to).0 in-g;
+              is_match = plain_match no_eps (((all.are.each g.0 g.1).states.exact t.to).0 in-g);
               same = o.is.args ∙ ((λ i. states_at (places i) (σ-is i)) ∙ states_are (variables_of p) shared g.0.sigma);
             },
           )) ((all_taken all.gone).forth t c),
       λ h.
-          let g = all.are.all h.1.σ t.to h.1.is_match in
+          let found = any_match no_eps h.1.is_match in
+          let g = all.are.all h.1.σ t.to found in
           (all_taken all.gone).taken t (record {
             group = after [] g.group;
             has = map_has (after []) all.groups g.group (after [] g.group) g.has refl;
             is = record {
               symbol = h.0 ∙ sym side-is;
               args = h.1.same ∙ (sym (states_are (variables_of p) shared h.1.σ) ∙ sym (λ i. states_at (places i) (g.same i)));
-              to = ((all.are.each g.group g.has).states.exact t.to).1 (subst (λ σ. MatchesAt true A (variables_of p) p σ t.to) (sym g.same) h.1.is_match);
+              to = ((all.are.each g.group g.has).states.exact t.to).1 (subst (λ σ. MatchesAt false A (variables_of p) p σ t.to) (sym g.same) found);
             };
           }),
     )

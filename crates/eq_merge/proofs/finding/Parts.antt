@@ -8,7 +8,7 @@ use Rattle.list_laws.proofs.Members.{here, none, parts, all_from_members}
 use Rattle.list_laws.proofs.InOrder.{in_order_has}
 use Rattle.ranked_terms.specs.declared.term.Config.{Config}
 use Rattle.trs_rules.specs.Rules.{RewriteEquation}
-use Rattle.ta_core.specs.TreeAutomaton.{TreeAutomaton, IsSound, IsTransOf, bare, trans_of, trans_cmp}
+use Rattle.ta_core.specs.TreeAutomaton.{TreeAutomaton, IsSound, IsTransOf, bare, trans_of}
 use Rattle.ta_core.specs.Runs.{RunsPlain, RunsAllPlain}
 use Rattle.ta_core.specs.Acceptance.{image}
 use Rattle.ta_core.specs.declared.trans.Trans.{Trans}

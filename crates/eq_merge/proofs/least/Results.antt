@@ -4,7 +4,7 @@ use Rattle.std.specs.List.{filter}
 use Rattle.std.proofs.lemmas.List.Elements.{All-contains, All-filter, Contains-append_cases}
 use Rattle.list_laws.proofs.Members.{here, there, none, parts, map_had}
 use Rattle.trs_rules.specs.Rules.{RewriteEquation, IsEquation}
-use Rattle.ta_core.specs.TreeAutomaton.{TreeAutomaton, IsSound}
+use Rattle.ta_core.specs.TreeAutomaton.{TreeAutomaton}
 use Rattle.ta_core.specs.Laws.{PlainRunsAreDecided}
 use Rattle.ta_core.specs.Acceptance.{image}
 use Rattle.eq_merge.specs.Quotients.{quotient, joining, apart, followed}

@@ -8,7 +8,6 @@ use Rattle.std.proofs.lemmas.List.Elements.{All-weaker}
 use Rattle.list_laws.specs.Lists.{IsUnion}
 use Rattle.list_laws.proofs.Members.{all_from_members}
 use Rattle.list_laws.proofs.InOrder.{all_aside, in_order_union}
-use Rattle.ta_core.specs.declared.trans.Trans.{Trans}
 use Rattle.ta_core.specs.TreeAutomaton.{TreeAutomaton, IsSound, IsTransOf, IsEpsOf, bare, trans_cmp, pair_cmp}
 use Rattle.ta_core.specs.Acceptance.{image}
 use Rattle.ta_core.specs.lemmas.Orders.{trans_total, trans_exact, pair_total, pair_exact}

@@ -31,33 +31,33 @@ both_sides A e shared left right B C D are l r b u c w d = record {
   );
 }
 
-pub side_ends-requires : goal.side_ends-requires
-side_ends-requires c = subst (λ p. length (variables_of p) ≤ 16) (sym c.left.ensures.side) (few_left c.args.equation.now c.left.ensures.equation)
+pub side_ends-requires-clause-few : goal.side_ends-requires-clause-few
+side_ends-requires-clause-few c = subst (λ p. length (variables_of p) ≤ 16) (sym c.left.ensures.side) (few_left c.args.equation.now c.left.ensures.equation)
 
-pub side_ends-requires-2 : goal.side_ends-requires-2
-side_ends-requires-2 c = subst (λ p. length (variables_of p) ≤ 16) (sym c.right.ensures.side) (few_right c.args.equation.now c.left.ensures.equation)
+pub side_ends-requires-2-clause-few : goal.side_ends-requires-2-clause-few
+side_ends-requires-2-clause-few c = subst (λ p. length (variables_of p) ≤ 16) (sym c.right.ensures.side) (few_right c.args.equation.now c.left.ensures.equation)
 
 pub add_all_trans-requires : goal.add_all_trans-requires
 add_all_trans-requires c =
-    of_side c.args.equation.now c.in_ok-shared.shared 0 c.in_ok-left.left c.in_ok-ends.ends.states c.next.ensures.sound
-    (ap (λ (X : TreeAutomaton). X.states) c.in_ok-ends.ensures ∙ c.states.ensures.value) c.args.equation.now.left (λ v i. ((c.in_ok-shared.ensures v).0 i).0)
-    (λ t. subst (λ s. Contains c.in_ok-left.left t ↔ ((t.sym ≡ 0) × EndsAt c.args.automaton.now c.args.equation.now.left s t.args t.to)) c.as_slice.ensures
-    (subst (λ p. Contains c.in_ok-left.left t ↔ ((t.sym ≡ 0) × EndsAt c.args.automaton.now p c.as_slice.result.now t.args t.to)) c.left.ensures.side (c.in_ok-left.ensures t)))
+    of_side c.args.equation.now c.in_ok-shared.shared 0 c.in_ok-left.left c.in_ok-ends.ends.states (subst IsSound c.automaton-automaton.ensures c.next.ensures.sound)
+    (ap (λ (X : TreeAutomaton). X.states) c.in_ok-ends.ensures ∙ (c.states.ensures.value ∙ ap (λ (X : TreeAutomaton). X.states) c.automaton-automaton.ensures)) c.args.equation.now.left (λ v i. ((c.in_ok-shared.ensures v).0 i).0)
+    (λ t. subst (λ s. Contains c.in_ok-left.left t ↔ ((t.sym ≡ 0) × EndsAt c.args.matcher.now c.args.equation.now.left s t.args t.to)) c.as_slice.ensures
+    (subst (λ p. Contains c.in_ok-left.left t ↔ ((t.sym ≡ 0) × EndsAt c.args.matcher.now p c.as_slice.result.now t.args t.to)) c.left.ensures.side (c.in_ok-left.ensures t)))
 
 pub add_all_trans-requires-2 : goal.add_all_trans-requires-2
 add_all_trans-requires-2 c =
-    of_side c.args.equation.now c.in_ok-shared.shared 1 c.in_ok-right.right c.add_all_trans.new.self.states c.next.ensures.sound
-    (ap (λ (X : TreeAutomaton). X.states) c.in_ok-add_all_trans.ensures.rest ∙ (ap (λ (X : TreeAutomaton). X.states) c.in_ok-ends.ensures ∙ c.states.ensures.value))
+    of_side c.args.equation.now c.in_ok-shared.shared 1 c.in_ok-right.right c.add_all_trans.new.self.states (subst IsSound c.automaton-automaton.ensures c.next.ensures.sound)
+    (ap (λ (X : TreeAutomaton). X.states) c.in_ok-add_all_trans.ensures.rest ∙ (ap (λ (X : TreeAutomaton). X.states) c.in_ok-ends.ensures ∙ (c.states.ensures.value ∙ ap (λ (X : TreeAutomaton). X.states) c.automaton-automaton.ensures)))
     c.args.equation.now.right (λ v i. ((c.in_ok-shared.ensures v).0 i).1)
-    (λ t. subst (λ s. Contains c.in_ok-right.right t ↔ ((t.sym ≡ 1) × EndsAt c.args.automaton.now c.args.equation.now.right s t.args t.to)) c.as_slice-2.ensures
-    (subst (λ p. Contains c.in_ok-right.right t ↔ ((t.sym ≡ 1) × EndsAt c.args.automaton.now p c.as_slice-2.result.now t.args t.to)) c.right.ensures.side (c.in_ok-right.ensures t)))
+    (λ t. subst (λ s. Contains c.in_ok-right.right t ↔ ((t.sym ≡ 1) × EndsAt c.args.matcher.now c.args.equation.now.right s t.args t.to)) c.as_slice-2.ensures
+    (subst (λ p. Contains c.in_ok-right.right t ↔ ((t.sym ≡ 1) × EndsAt c.args.matcher.now p c.as_slice-2.result.now t.args t.to)) c.right.ensures.side (c.in_ok-right.ensures t)))
 
 pub returns : goal.returns
 returns c =
-    both_sides c.args.automaton.now c.args.equation.now c.in_ok-shared.shared c.in_ok-left.left c.in_ok-right.right c.in_ok-ends.ends c.add_all_trans.new.self c.add_all_trans-2.new.self c.in_ok-shared.ensures
-    (λ t. subst (λ s. Contains c.in_ok-left.left t ↔ ((t.sym ≡ 0) × EndsAt c.args.automaton.now c.args.equation.now.left s t.args t.to)) c.as_slice.ensures
-    (subst (λ p. Contains c.in_ok-left.left t ↔ ((t.sym ≡ 0) × EndsAt c.args.automaton.now p c.as_slice.result.now t.args t.to)) c.left.ensures.side (c.in_ok-left.ensures t)))
-    (λ t. subst (λ s. Contains c.in_ok-right.right t ↔ ((t.sym ≡ 1) × EndsAt c.args.automaton.now c.args.equation.now.right s t.args t.to)) c.as_slice-2.ensures
-    (subst (λ p. Contains c.in_ok-right.right t ↔ ((t.sym ≡ 1) × EndsAt c.args.automaton.now p c.as_slice-2.result.now t.args t.to)) c.right.ensures.side (c.in_ok-right.ensures t)))
-    (c.in_ok-ends.ensures ∙ (λ i. bare (c.next.ensures.value i) (c.states.ensures.value i)))
+    both_sides c.args.matcher.now c.args.equation.now c.in_ok-shared.shared c.in_ok-left.left c.in_ok-right.right c.in_ok-ends.ends c.add_all_trans.new.self c.add_all_trans-2.new.self c.in_ok-shared.ensures
+    (λ t. subst (λ s. Contains c.in_ok-left.left t ↔ ((t.sym ≡ 0) × EndsAt c.args.matcher.now c.args.equation.now.left s t.args t.to)) c.as_slice.ensures
+    (subst (λ p. Contains c.in_ok-left.left t ↔ ((t.sym ≡ 0) × EndsAt c.args.matcher.now p c.as_slice.result.now t.args t.to)) c.left.ensures.side (c.in_ok-left.ensures t)))
+    (λ t. subst (λ s. Contains c.in_ok-right.right t ↔ ((t.sym ≡ 1) × EndsAt c.args.matcher.now c.args.equation.now.right s t.args t.to)) c.as_slice-2.ensures
+    (subst (λ p. Contains c.in_ok-right.right t ↔ ((t.sym ≡ 1) × EndsAt c.args.matcher.now p c.as_slice-2.result.now t.args t.to)) c.right.ensures.side (c.in_ok-right.ensures t)))
+    (c.in_ok-ends.ensures ∙ ((λ i. bare (c.next.ensures.value i) (c.states.ensures.value i)) ∙ ap (λ (X : TreeAutomaton). bare X.next X.states) c.automaton-automaton.ensures))
     c.in_ok-add_all_trans.ensures.members c.in_ok-add_all_trans.ensures.rest c.in_ok-add_all_trans-2.ensures.members c.in_ok-add_all_trans-2.ensures.rest

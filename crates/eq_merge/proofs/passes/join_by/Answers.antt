@@ -17,7 +17,7 @@ join_ends-requires-clause-inside c =
 pub returns-clause-joined : goal.returns-clause-joined
 returns-clause-joined c =
     let e = c.args.equation.now in
-    let A = c.args.automaton.now in
+    let A = c.args.matcher.now in
     let B = c.in_ok-ends.ends in
     on_ok c.join_ends-2.result (joined_weaker (λ p q x. leaders_are_equated e c.vars.ensures.equation c.in_ok-ends.ensures c.trans.result.now c.trans.ensures.value p q
     (subst (λ X. IsLeader X c.trans.result.now p q) c.on.ensures x))) c.join_ends-2.ensures.joined

@@ -1,26 +1,26 @@
-use Rattle.std.proofs.Common.{Contains, refl, sym, subst, ◌∙◌, arith}
-use Rattle.std.proofs.lemmas.List.{take_all}
-use Rattle.list_laws.proofs.Members.{none}
+use Rattle.std.proofs.Common.{ap, sym, ◌∙◌, ◌≤◌, length, subst}
+use Rattle.ta_core.specs.TreeAutomaton.{TreeAutomaton}
 use Rattle.eq_merge.specs.Joined.{Joined}
-use Rattle.eq_merge.proofs.finding.Leading.{joined_long, joined_weaker, joined_after, one_more_equation, by_one}
+use Rattle.eq_merge.proofs.finding.Leading.{on_ok, joined_weaker}
+use Rattle.eq_merge.proofs.finding.PlainParts.{equated_in, equated_from, none_equated}
 use Rattle.eq_merge.proofs.passes.join_equated.Goals as goal
 
-pub loop-equation-init : goal.loop-equation-init
-loop-equation-init c = record { long = refl; joined = Joined.none; all = λ p q h. absurd (none h.0 h.1) }
+pub returns-then-is_empty-clause-joined : goal.returns-then-is_empty-clause-joined
+returns-then-is_empty-clause-joined c = Joined.none
 
-pub loop-equation-preserved : goal.loop-equation-preserved
-loop-equation-preserved c =
-    let E = c.args.equations.now in
-    let x = c.equation-item.result in
-    let i = c.loop-equation.equation-index in
-    let h = c.in_ok-join_by.ensures in
-    record {
-      long = joined_long h.joined ∙ c.loop-equation.invariant.long;
-      joined = joined_after c.loop-equation.invariant.joined (joined_weaker (by_one E i x c.loop-equation-test.true c.equation-item.is) h.joined);
-      all = one_more_equation c.next.ensures.sound E i x c.loop-equation.classes c.join_by.new.classes c.loop-equation-test.true c.equation-item.is
-          (omega (arith, c.requires, c.loop-equation.invariant.long)) h.joined h.all c.loop-equation.invariant.all;
-    }
+pub returns-then-is_empty-clause-all : goal.returns-then-is_empty-clause-all
+returns-then-is_empty-clause-all c p q x = absurd (none_equated c.args.automaton.now c.args.equations.now (sym c.is_empty.ensures ∙ c.if-is_empty.true) p q x)
+
+pub join_each-requires-clause-next : goal.join_each-requires-clause-next
+join_each-requires-clause-next c = subst (λ n. n ≤ length c.args.classes.now) (sym (ap (λ (X : TreeAutomaton). X.next) (c.in_ok-matcher.ensures ∙ c.in_ok-plain.ensures))) c.requires
+
+pub join_each-requires-clause-plain : goal.join_each-requires-clause-plain
+join_each-requires-clause-plain c = ap (λ (X : TreeAutomaton). X.eps) (c.in_ok-matcher.ensures ∙ c.in_ok-plain.ensures)
+
+pub returns-clause-joined : goal.returns-clause-joined
+returns-clause-joined c =
+    on_ok c.join_each.result (joined_weaker (equated_in c.args.automaton.now c.in_ok-matcher.matcher (c.in_ok-matcher.ensures ∙ c.in_ok-plain.ensures) c.args.equations.now)) c.join_each.ensures.joined
 
 pub returns-clause-all : goal.returns-clause-all
-returns-clause-all c p q x =
-    c.loop-equation.invariant.all p q (x.0, subst (λ es. Contains es x.0) (sym (take_all c.loop-equation.equation-index c.args.equations.now c.loop-equation-test.false)) x.1, x.2)
+returns-clause-all c =
+    on_ok c.join_each.result (λ all p q x. all p q (equated_from c.args.automaton.now c.in_ok-matcher.matcher (c.in_ok-matcher.ensures ∙ c.in_ok-plain.ensures) c.args.equations.now p q x)) c.join_each.ensures.all
