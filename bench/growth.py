@@ -44,6 +44,7 @@ Families:
   nested    the same by a = b and s(t(x)) = s(t(x)), in chains of s and t in turn
   repeated  the same by a = b and g(x,x) = k(x): g from the last pair that was merged, and k from its first state
   all_one   x = y: all states are one
+  equated   so many equations k0(x) = l0(x), .., each of which joins two states, and twelve times as many transitions of f
 
 Families of the search, without rounds of completion:
   trees     one rule d(x) -> c(d(x),d(x)), and as many terms as the search may keep
@@ -334,6 +335,21 @@ def all_one(count, chance):
     return merging("", "x = y", [f"q{i}" for i in range(count)], [], chance)
 
 
+def equated(count, chance):
+    """Each equation has symbols of its own, with one transition each, from one state."""
+    states = [f"q{i}" for i in range(4 * count)]
+    transitions, equations = [], []
+    for i in range(count):
+        state, left, right = (chance.randrange(4 * count) for _ in range(3))
+        transitions += [f"k{i}(q{state}) -> q{left}", f"l{i}(q{state}) -> q{right}"]
+        equations.append(f"k{i}(x) = l{i}(x)")
+    for _ in range(12 * count):
+        left, right, target = (chance.randrange(4 * count) for _ in range(3))
+        transitions.append(f"f(q{left},q{right}) -> q{target}")
+    symbols = "f:2 " + " ".join(f"k{i}:1 l{i}:1" for i in range(count))
+    return merging(symbols, "\n".join(equations), states, transitions, chance)
+
+
 FAMILIES = [
     (reading, [4000, 8000, 16000]),
     (faulty, [4000, 8000, 16000]),
@@ -358,6 +374,7 @@ FAMILIES = [
     (nested, [500, 1000, 2000]),
     (repeated, [500, 1000, 2000]),
     (all_one, [1250, 2500, 5000]),
+    (equated, [256, 512, 1024]),
 ]
 
 
