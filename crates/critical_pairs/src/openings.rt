@@ -1,10 +1,10 @@
 //! The open pairs of one rule, found assignment by assignment.
-ghost use Rattle.std.specs.Prelude.{◌≡◌, ◌≤◌, ◌++◌, length, map, OnOk};
+ghost use Rattle.std.specs.Prelude.{◌≡◌, ◌≤◌, ◌++◌, length, map, IfOk, OnOk};
 ghost use Rattle.ranked_terms.specs.Limits.{max_variables};
 ghost use Rattle.critical_pairs.specs.Opens.{pair_of};
 
 use ranked_terms::Seq;
-use state_match::{Groups, Matcher};
+use state_match::{Groups, Kept, Matcher};
 use std::alloc::{AllocError, Global};
 use std::marker::Model;
 use trs_rules::{Pair, Rule, Sigma};
@@ -13,7 +13,8 @@ use trs_rules::{Pair, Rule, Sigma};
 #[derive(Drop)]
 pub(crate) struct Openings<'a> {
     alloc: Global,
-    matcher: &'a Matcher<'a>,
+    // The rule's right side.
+    right: Kept<'a>,
     number: u32,
     rule: &'a Rule,
     limit: u32,
@@ -21,6 +22,7 @@ pub(crate) struct Openings<'a> {
 }
 
 impl<'a> Model for Openings<'a> {
+    ghost use Rattle.std.specs.Prelude.{◌≡◌};
     ghost use Rattle.std.specs.Coded.{codes};
     ghost use Rattle.ranked_terms.specs.contracts.term.Pattern as patterns;
     ghost use Rattle.critical_pairs.specs.Opens.{Opening};
@@ -30,14 +32,16 @@ impl<'a> Model for Openings<'a> {
     ghost coded = { Prim.hlevel (codes, patterns.the_row.coded) };
 
     ghost view = { λ o. record {
-      setting = record { automaton = o.matcher.now; number = o.number; rule = o.rule.now };
+      setting = record { automaton = o.right.automaton; number = o.number; rule = o.rule.now };
       limit = o.limit;
       pairs = o.pairs;
     } };
+
+    ghost invariant = { λ o. (o.right.vars ≡ o.rule.now.vars) × (o.right.pattern ≡ o.rule.now.right) };
 }
 
 impl<'a> Openings<'a> {
-    /// Begins with these pairs. It takes no memory.
+    /// Begins with these pairs. The only error is running out of memory.
     pub(crate) fn new(
         alloc: Global,
         matcher: &'a Matcher<'a>,
@@ -45,21 +49,22 @@ impl<'a> Openings<'a> {
         rule: &'a Rule,
         limit: u32,
         pairs: Seq<Pair>,
-    ) -> Openings<'a>
-        ensures { result ≡ record {
+    ) -> Result<Openings<'a>, AllocError>
+        ensures { IfOk result (λ openings. openings ≡ record {
           setting = record { automaton = matcher.now; number = number; rule = rule.now };
           limit = limit;
           pairs = pairs;
-        } }
+        }) }
     {
-        Openings {
+        let right = Kept::new(matcher, rule.vars(), rule.right())?;
+        Ok(Openings {
             alloc,
-            matcher,
+            right,
             number,
             rule,
             limit,
             pairs,
-        }
+        })
     }
 
     /// The pairs that were found.
@@ -80,9 +85,7 @@ impl<'a> Groups for Openings<'a> {
     ghost broke = { λ u g v. Unit {0} };
 
     fn take(&mut self, assignment: &[u32], states: &[u32]) -> Result<bool, AllocError> {
-        let vars = self.rule.vars();
-        let right = self.rule.right();
-        let open = self.matcher.missed_states(right, vars, assignment, states)?;
+        let open = self.right.missed_states(assignment, states)?;
         let room = (self.limit as usize).saturating_sub(self.pairs.len());
         if open.len() > room {
             return Ok(false);

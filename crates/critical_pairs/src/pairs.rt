@@ -80,7 +80,7 @@ fn with_pairs_of(
     ensures more { IsErrOf result PairError.More →
         ExceedsWith (record { automaton = matcher.now; number = number; rule = rule.now }) limit pairs }
 {
-    let mut openings = Openings::new(alloc, matcher, number, rule, limit, pairs);
+    let mut openings = Openings::new(alloc, matcher, number, rule, limit, pairs)?;
     let on = matcher.each_group(rule.left(), rule.vars(), &mut openings)?;
     if !on {
         return Err(PairError::More);

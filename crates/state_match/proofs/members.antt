@@ -7,3 +7,5 @@ pub mod Belows
 pub mod JoinLaws
 pub mod Edges
 pub mod Outside
+pub mod KeptTables
+pub mod Kepts

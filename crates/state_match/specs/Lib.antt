@@ -6,5 +6,7 @@ pub mod Collected
 pub mod Rows
 pub mod Belows
 pub mod Edges
+pub mod Sides
+pub mod Kepts
 pub mod Sets
 pub mod Laws

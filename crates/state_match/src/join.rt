@@ -33,7 +33,7 @@ pub(crate) fn applied(
 }
 
 /// The state, if it is one.
-fn one_state(alloc: Global, all: &StateSet, state: u32) -> Result<StateSet, AllocError>
+pub(crate) fn one_state(alloc: Global, all: &StateSet, state: u32) -> Result<StateSet, AllocError>
     ensures { IfOk result (λ set. (x : ℕ) → Contains set x ↔ ((state ≡ x) × Contains all.now x)) }
 {
     if !all.contains(state) {

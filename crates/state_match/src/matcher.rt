@@ -1,14 +1,11 @@
 //! An automaton made ready for the matches of many patterns.
 ghost use Rattle.std.specs.Prelude.{◌≡◌, ◌↔◌, ℕ, Contains, IfOk, IfSome};
-ghost use Rattle.std.specs.Ordering.{nat_cmp};
-ghost use Rattle.std.specs.List.Sorted.{IsStrictlySortedBy};
 ghost use Rattle.ranked_terms.specs.Terms.{assigned};
 ghost use Rattle.ta_core.specs.Closure.{state_in};
 ghost use Rattle.ta_core.specs.Runs.{Runs};
 ghost use Rattle.state_match.specs.Rows.{IsReverse};
 
-use crate::assigned::{assigned_known, assigned_states};
-use crate::missed::outside;
+use crate::assigned::assigned_states;
 use crate::tabled::Tabled;
 use crate::turned::Turned;
 use ranked_terms::Pattern;
@@ -79,31 +76,6 @@ impl<'a> Matcher<'a> {
             Contains found q ↔ Runs self.now (assigned (state_in vars.now states.now) pattern.now) q) }
     {
         assigned_states(self.alloc, &self.tabled, &self.all, pattern, vars, states)
-    }
-
-    /// Those of the states, in their order, to which the pattern doesn't run with the assignment's states for its variables, both
-    /// in the same order. A variable that is none of `vars` stands for the state 0. The only error is running out of memory.
-    pub fn missed_states(
-        &self,
-        pattern: &Pattern,
-        vars: &[u32],
-        assignment: &[u32],
-        states: &[u32],
-    ) -> Result<Vec<u32>, AllocError>
-        ensures members { IfOk result (λ missed. (q : ℕ) → Contains missed.items q ↔ (Contains states.now q
-            × (Runs self.now (assigned (state_in vars.now assignment.now) pattern.now) q → ⊥))) }
-        ensures order { IsStrictlySortedBy nat_cmp states.now →
-            IfOk result (λ missed. IsStrictlySortedBy nat_cmp missed.items) }
-    {
-        let found = assigned_known(
-            self.alloc,
-            &self.tabled,
-            &self.all,
-            pattern,
-            vars,
-            assignment,
-        )?;
-        outside(self.alloc, states, &found)
     }
 
     /// Where lists grow.
