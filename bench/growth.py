@@ -240,6 +240,15 @@ def left(count, chance):
     return both_sides(count, chance, "f(f(f(x,y),z),w)")
 
 
+def leaning(count, chance):
+    """A first argument so deep, over 1,000 states that each run to themselves under it."""
+    states = [f"q{i}" for i in range(1000)]
+    transitions = [f"s({state}) -> {state}" for state in states] + [f"f({state},{state}) -> {state}" for state in states]
+    side = "f(" + "s(" * count + "x" + ")" * count + ",y)"
+    head = f"Ops a:0 s:1 f:2\nVars x y\nTRS R\n{side} -> {side}\n"
+    return head + automaton("A", states, [*transitions, "a -> q0"], ["q0"], chance)
+
+
 def ending(count, chance):
     names = [f"x{i}" for i in range(count)]
     side = f"h({names[-1]})"
@@ -364,6 +373,7 @@ FAMILIES = [
     (flat, [500, 1000, 2000]),
     (deep, [500, 1000, 2000]),
     (left, [500, 1000, 2000]),
+    (leaning, [24, 48, 96]),
     (ending, [4, 8, 16]),
     (many, [1000, 2000, 4000]),
     (pairs, [750, 1500, 3000]),

@@ -24,6 +24,7 @@ abbrev pub IsFrom : List ℕ → List Pattern → ℕ → Source → Pattern →
 IsFrom vars patterns k (Variable place) p = (v : ℕ) × (p ≡ Var v) × (place ≡ position_or_len (λ w. v == w) vars)
 IsFrom vars patterns k (Application f start count) p = (start + count ≤ k) × (p ≡ App f (take count (drop start patterns)))
 
+-- the subterm's node says what decides its states and where they come from
 pub record IsNode (vars : List ℕ) (patterns : List Pattern) (k : ℕ) (n : Node) (p : Pattern) : Type 0 where
   pub decides : Decides vars n.until p
   pub from : IsFrom vars patterns k n.source p
@@ -39,7 +40,8 @@ IsTable vars patterns k (n ∷ ns) (p ∷ ps) = IsNode vars patterns k n p × Is
 abbrev pub AreNodes : List ℕ → List Node → List Pattern → Type 0
 AreNodes vars ns ps = IsTable vars ps 0 ns ps
 
--- behind the others the patterns of these, with the arguments among the others, and so many first variables decide each
+-- the nodes of these patterns, with the arguments among the first so many of the others, and so many first variables decide
+-- each
 abbrev pub AreArguments : List ℕ → List Pattern → ℕ → ℕ → List Node → List Pattern → Type 0
 AreArguments vars patterns k until [] [] = Unit {0}
 AreArguments vars patterns k until [] (p ∷ ps) = ⊥
@@ -77,6 +79,7 @@ abbrev pub end_of : Source → ℕ
 end_of (Variable place) = 0
 end_of (Application f start count) = start + count
 
+-- the set has the states to which the pattern runs with these states for its variables
 abbrev pub IsExact : TreeAutomaton → List ℕ → List ℕ → Pattern → List ℕ → Type 0
 IsExact A vars σ p set = (q : ℕ) → Contains set q ↔ Runs A (assigned (state_in vars σ) p) q
 
@@ -94,7 +97,7 @@ AreExactTo A vars σ staying (suc k) (n ∷ ns) (p ∷ ps) (set ∷ sets) = IsEx
 abbrev pub AreExactAll : TreeAutomaton → List ℕ → List ℕ → List Node → List Pattern → List (List ℕ) → Type 0
 AreExactAll A vars σ ns ps sets = AreExactTo A vars σ 0 (length ns) ns ps sets
 
--- where the first ones whose variables stay are exact, all become so
+-- where those whose variables stay are exact, all become so
 abbrev pub Renews : TreeAutomaton → List ℕ → ℕ → List Node → List (List ℕ) → List (List ℕ) → Type 0
 Renews A σ staying ns old new = (vars : List ℕ) (ps : List Pattern) → AreNodes vars ns ps → AreExactTo A vars σ staying 0 ns ps old → AreExactTo A vars σ staying (length ns) ns ps new
 

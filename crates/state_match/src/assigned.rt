@@ -12,7 +12,8 @@ use std::alloc::{AllocError, Global};
 use ta_core::{StateSet, assign};
 
 /// The states to which the pattern runs with these states for its variables, both in the same order. A variable that is none of
-/// `vars` stands for the state 0. `all` has all states of the automaton. The only error is running out of memory.
+/// `vars` stands for the state behind theirs, and one for which there is no state for 0. `all` has all states of the automaton.
+/// The only error is running out of memory.
 pub fn assigned_states(
     alloc: Global,
     automaton: &Tabled,

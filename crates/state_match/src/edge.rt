@@ -92,7 +92,8 @@ fn has_arguments(pattern: &Pattern) -> bool {
     }
 }
 
-/// As `narrow`, where the edge of the pattern is known. The only error is running out of memory.
+/// As `narrow`, where the edge of the pattern is known: it goes down the edge as long as the first argument has variables that
+/// stand for no state yet. The only error is running out of memory.
 pub(crate) fn narrow_along(
     alloc: Global,
     automaton: &Tabled,
@@ -116,15 +117,13 @@ pub(crate) fn narrow_along(
     if let Some(edge) = edge {
         if let Pattern::App(_, args) = pattern {
             let args = args.as_slice();
-            if !args.is_empty() {
+            if !args.is_empty() && below.args[0].until > bound.len() {
                 let first = &edge.first;
                 let deeper = edge.deeper.as_slice().first();
                 let inner = &below.args[0];
-                if let Some(states) = narrow_along(
+                return narrow_along(
                     alloc, automaton, reversed, all, vars, bound, first, deeper, &args[0], inner,
-                )? {
-                    return Ok(Some(states));
-                }
+                );
             }
         }
     }

@@ -139,7 +139,7 @@ fn each_by<V: Groups>(
     let alloc = matcher.alloc();
     let tabled = matcher.tabled();
     let all = matcher.all();
-    let below = Below::of(alloc, tabled, all, pattern)?;
+    let below = Below::of(alloc, tabled, all, vars, pattern)?;
     let edge = Edge::of(alloc, tabled, turned, all, all, pattern, &below)?;
     let start = Bound::new(
         alloc, plain, automaton, tabled, turned, all, &edge, pattern, &below, vars,

@@ -81,6 +81,27 @@ pub(crate) fn value(
     }
 }
 
+/// As `value`, and none at once where the states of more first variables decide the pattern's than stand. The only error is
+/// running out of memory.
+fn value_below(
+    alloc: Global,
+    automaton: &Tabled,
+    all: &StateSet,
+    vars: &[u32],
+    bound: &[u32],
+    pattern: &Pattern,
+    below: &Below,
+) -> Result<Option<Known>, AllocError>
+    requires { all.now ≡ automaton.now.states }
+    ensures { IfOk result (λ states. IfSome states (λ states. (rest : List ℕ) (q : ℕ) →
+        Contains states q ↔ Runs automaton.now (assigned (state_in vars.now (bound.now ++ rest)) pattern.now) q)) }
+{
+    if below.until > bound.len() {
+        return Ok(None);
+    }
+    value(alloc, automaton, all, vars, bound, pattern)
+}
+
 /// States among which is each one with which the next variable lets the pattern run to a wanted state, or none where nothing
 /// is known. The only error is running out of memory.
 pub(crate) fn narrow(
@@ -112,7 +133,8 @@ pub(crate) fn narrow(
         Pattern::App(sym, args) => {
             let mut sets = Vec::new(alloc);
             for (place, arg) in args.as_slice().iter().enumerate() {
-                match value(alloc, automaton, all, vars, bound, arg)? {
+                let deeper = &below.args[place];
+                match value_below(alloc, automaton, all, vars, bound, arg, deeper)? {
                     Some(set) => {
                         let listed = set.listed_if(alloc, automaton.has_many(*sym))?;
                         sets.push(listed)?;
@@ -124,7 +146,6 @@ pub(crate) fn narrow(
                             alloc, automaton, reversed, all, *sym, &sets, others, count, wanted,
                         )?;
                         let back = reversed.closed(column)?;
-                        let deeper = &below.args[place];
                         return narrow(
                             alloc, automaton, reversed, all, vars, bound, &back, arg, deeper,
                         );

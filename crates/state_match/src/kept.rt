@@ -71,9 +71,9 @@ impl<'a> Kept<'a> {
         })
     }
 
-    /// Those of the states, in their order, to which the pattern doesn't run with the assignment's states for its variables, both
-    /// in the same order. A variable that is none of its variables stands for the state 0. The only error is running out of
-    /// memory.
+    /// Those of the states to which the pattern doesn't run with the assignment's states for its variables, both in the same
+    /// order; in ascending order where the states are. A variable that is none of its variables stands for the state behind
+    /// theirs, and one for which there is no state for 0. The only error is running out of memory.
     pub fn missed_states(
         &mut self,
         assignment: &[u32],

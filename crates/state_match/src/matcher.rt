@@ -65,7 +65,8 @@ impl<'a> Matcher<'a> {
     }
 
     /// The states to which the pattern runs with these states for its variables, both in the same order. A variable that is
-    /// none of `vars` stands for the state 0. The only error is running out of memory.
+    /// none of `vars` stands for the state behind theirs, and one for which there is no state for 0. The only error is running
+    /// out of memory.
     pub fn assigned_states(
         &self,
         pattern: &Pattern,

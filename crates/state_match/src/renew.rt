@@ -10,7 +10,7 @@ use std::alloc::{AllocError, Global};
 use ta_core::StateSet;
 
 /// Computes the states of each subterm whose variables don't all stand among the first ones that stay, of which there is one
-/// less than `staying`. The only error is running out of memory.
+/// less than `staying`; where that is 0 nothing is known yet, and all are computed. The only error is running out of memory.
 pub(crate) fn renew(
     alloc: Global,
     automaton: &Tabled,

@@ -19,7 +19,7 @@ loop-arg-preserved t c =
     )
 
 pub returns-in-Var : goal.returns-in-Var
-returns-in-Var t c = below_variable c.args.automaton.now c.args.pattern.now _ c.in-Var.field-0 c.in-Var.is
+returns-in-Var t c = below_variable c.args.automaton.now c.args.pattern.now _ c.in-Var.variable c.in-Var.is
 
 pub returns-after-loop-arg : goal.returns-after-loop-arg
 returns-after-loop-arg t c =
