@@ -2,10 +2,11 @@
 ghost use Rattle.std.specs.Prelude.{◌≡◌, ◌↔◌, ◌<◌, ◌≤◌, ℕ, length, All, Contains, IsTrue, IfOk, MatchOption, None};
 ghost use Rattle.ta_core.specs.Languages.{Accepts};
 ghost use Rattle.term_store.specs.Store.{term_at, Keeps};
+ghost use Rattle.term_store.specs.Index.{IsIndexOf};
 ghost use Rattle.derive_search.specs.Starts.{AreTooMany};
 ghost use Rattle.derive_search.specs.StateSets.{AreStateSets};
 ghost use Rattle.derive_search.specs.LowPairs.{AreFinal};
-ghost use Rattle.derive_search.specs.Growing.{terms_in, AreEarlier, AreStarts, NoneAccepted, IsHit};
+ghost use Rattle.derive_search.specs.Growing.{terms_in, AreEarlier, AreStarts, IsLevel, NoneAccepted, IsHit};
 ghost use Rattle.derive_search.specs.Search.{SearchAnswer};
 
 use crate::growth::{Levels, add, grow, id_at, read_back};
@@ -36,8 +37,6 @@ pub enum SearchEnd {
 pub fn search(alloc: Global, spec: &Spec, options: &Options) -> Result<SearchEnd, AllocError>
     ensures { IfOk result (SearchAnswer spec.now options.now) }
 {
-    // For the proof: what the forbidden automaton accepts is over the signature.
-    accepted_terms_are_over();
     let rules = spec.rules.as_slice();
     let index = RuleIndex::new(alloc, rules)?;
     let mut store = Store::new(alloc);
@@ -46,29 +45,41 @@ pub fn search(alloc: Global, spec: &Spec, options: &Options) -> Result<SearchEnd
     };
     let _terms = store.len();
     let mut levels = first_level(alloc, starts.as_slice())?;
+    search_from(alloc, spec, options, &index, &mut store, &mut levels)
+}
+
+// The search, where the starts are all that is reached yet.
+fn search_from(
+    alloc: Global,
+    spec: &Spec,
+    options: &Options,
+    index: &RuleIndex,
+    store: &mut Store,
+    levels: &mut Levels,
+) -> Result<SearchEnd, AllocError>
+    requires index { IsIndexOf spec.now.rules index.now }
+    requires starts { IsLevel spec.now options.now 0 store.old levels.old.ids.keys levels.old.origins.items 0 }
+    ensures { IfOk result (SearchAnswer spec.now options.now) }
+{
+    // For the proof: what the forbidden automaton accepts is over the signature.
+    accepted_terms_are_over();
+    let rules = spec.rules.as_slice();
+    let limit = options.terms as usize;
     let mut sets = Vec::new(alloc);
     let mut first = 0;
     for step in 0..options.steps {
-        if let Some(derivation) = test_level(alloc, spec, &store, &mut sets, &levels, first)? {
+        if let Some(derivation) = test_level(alloc, spec, store, &mut sets, levels, first)? {
             return Ok(SearchEnd::Found(derivation));
         }
         let end = levels.ids.len();
-        let within = grow(
-            alloc,
-            &mut store,
-            rules,
-            &index,
-            &mut levels,
-            first,
-            options.terms as usize,
-        )?;
+        let within = grow(alloc, store, rules, index, levels, first, limit)?;
         let _terms = store.len();
         if !within {
             return Ok(SearchEnd::Over(step + 1));
         }
         first = end;
     }
-    match test_level(alloc, spec, &store, &mut sets, &levels, first)? {
+    match test_level(alloc, spec, store, &mut sets, levels, first)? {
         Some(derivation) => Ok(SearchEnd::Found(derivation)),
         None => Ok(SearchEnd::Exhausted(options.steps)),
     }
