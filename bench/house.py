@@ -5,7 +5,7 @@ No proof file has more than 400 lines but for a reason given here, no folder of 
 page more than 120 characters and none of src/ more than 130; no crate has more must-fail edits than it may; each
 relative link of a page leads somewhere; each definition of docs/MODEL.md stands in the file that is named for it, and
 each name of docs/PROMISES.md is one of the code or of a definition. Then it runs `limits.py`, `cases_stdout.py --check`
-and `certificate_cases_stdout.py --check`, which stand beside it. The exit status is 1 where something is otherwise.
+and `library_cases_stdout.py --check`, which stand beside it. The exit status is 1 where something is otherwise.
 Python 3.11 or later."""
 import pathlib
 import re
@@ -124,7 +124,7 @@ def main():
     faults += [fault for page in pages() for fault in page_faults(page)]
     faults += [*model_faults(), *promise_faults()]
     print('\n'.join(faults + [f'layout: {len(faults)} faults']), flush=True)
-    runs = [['limits.py'], ['cases_stdout.py', '--check'], ['certificate_cases_stdout.py', '--check']]
+    runs = [['limits.py'], ['cases_stdout.py', '--check'], ['library_cases_stdout.py', '--check']]
     failed = [run for run in runs if subprocess.run([sys.executable, HERE / run[0], *run[1:]], check=False).returncode]
     return 1 if faults or failed else 0
 

@@ -11,17 +11,11 @@ mod fakes;
 #[cfg(test)]
 mod of_ranked_terms;
 #[cfg(test)]
-mod of_reading;
-#[cfg(test)]
 mod of_ta_core;
 #[cfg(test)]
 mod of_terms;
 #[cfg(test)]
 mod of_tim_io;
-#[cfg(test)]
-mod of_timbuk_grammar;
-#[cfg(test)]
-mod of_timbuk_lex;
 #[cfg(test)]
 mod of_trs_rules;
 #[cfg(test)]

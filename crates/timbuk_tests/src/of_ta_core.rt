@@ -170,13 +170,33 @@ fn by_lists(alloc: Global) -> Result<Automaton, Fail> {
     Ok(automaton)
 }
 
+// Whether the automaton has the lists.
+fn has_lists(alloc: Global, automaton: &Automaton) -> Result<bool, Fail> {
+    let found = lists(alloc, automaton)?;
+    Ok(found.as_str() == LISTS)
+}
+
+// Whether the automaton that is made member by member has them, and its copy.
+fn are_made_by_members(alloc: Global) -> Result<bool, Fail> {
+    let automaton = by_members(alloc)?;
+    Ok(has_lists(alloc, &automaton)? && is_copied(alloc, &automaton)?)
+}
+
+fn is_copied(alloc: Global, automaton: &Automaton) -> Result<bool, Fail> {
+    let copy = automaton.copy()?;
+    has_lists(alloc, &copy)
+}
+
+// Whether the automaton that is made by lists has them.
+fn are_made_by_lists(alloc: Global) -> Result<bool, Fail> {
+    let automaton = by_lists(alloc)?;
+    has_lists(alloc, &automaton)
+}
+
 #[test]
 fn automata_are_made_and_copied(rt: HostRuntime) -> Result<(), Fail> {
-    let automaton = by_members(rt.alloc())?;
-    assert_eq!(rt; lists(rt.alloc(), &automaton)?.as_str(), LISTS);
-    assert_eq!(rt; lists(rt.alloc(), &automaton.copy()?)?.as_str(), LISTS);
-    let automaton = by_lists(rt.alloc())?;
-    assert_eq!(rt; lists(rt.alloc(), &automaton)?.as_str(), LISTS);
+    assert!(rt; are_made_by_members(rt.alloc())?);
+    assert!(rt; are_made_by_lists(rt.alloc())?);
     Ok(())
 }
 
@@ -201,13 +221,26 @@ fn binary(alloc: Global, left: Term, right: Term) -> Result<Term, AllocError> {
     Ok(Term { sym: 2, args })
 }
 
+// The term `1(0)`, and the term `2(1(0), 0)`.
+fn inner(alloc: Global) -> Result<Term, AllocError> {
+    unary(alloc, constant(alloc))
+}
+
+fn whole(alloc: Global) -> Result<Term, AllocError> {
+    let left = inner(alloc)?;
+    binary(alloc, left, constant(alloc))
+}
+
+// Whether the automaton accepts the term.
+fn accepts(alloc: Global, term: &Term) -> Result<bool, Fail> {
+    let automaton = by_members(alloc)?;
+    Ok(automaton.accepts(term)?)
+}
+
 #[test]
 fn accepts_what_runs_to_a_final_state(rt: HostRuntime) -> Result<(), Fail> {
-    let automaton = by_members(rt.alloc())?;
-    let inner = unary(rt.alloc(), constant(rt.alloc()))?;
-    assert!(rt; !automaton.accepts(&inner)?);
-    let whole = binary(rt.alloc(), inner, constant(rt.alloc()))?;
-    assert!(rt; automaton.accepts(&whole)?);
+    assert!(rt; !accepts(rt.alloc(), &inner(rt.alloc())?)?);
+    assert!(rt; accepts(rt.alloc(), &whole(rt.alloc())?)?);
     Ok(())
 }
 
@@ -228,17 +261,35 @@ fn is_run(automaton: &Automaton, config: &Config, all: &[u32]) -> Result<bool, A
 
 const CLOSURES: &[(u32, &[u32])] = &[(2, &[2, 3, 4]), (0, &[0]), (9, &[])];
 
+// Whether these are the states that epsilon transitions lead to from the state.
+fn is_closure(automaton: &Automaton, state: u32, all: &[u32]) -> Result<bool, AllocError> {
+    Ok(automaton.eps_closure(state)?.as_slice() == all)
+}
+
+// Whether each closure of the table is the one of its state, and the states to which the state runs.
+fn are_closures(alloc: Global) -> Result<bool, Fail> {
+    let automaton = by_members(alloc)?;
+    for (state, all) in CLOSURES {
+        let is_run = is_run(&automaton, &Config::State(*state), all)?;
+        if !is_run || !is_closure(&automaton, *state, all)? {
+            return Ok(false);
+        }
+    }
+    Ok(true)
+}
+
+// Whether these are the states to which the configuration `2(1(0), state)` runs.
+fn runs_to(alloc: Global, state: u32, all: &[u32]) -> Result<bool, Fail> {
+    let automaton = by_members(alloc)?;
+    let config = nested(alloc, Config::State(state))?;
+    Ok(is_run(&automaton, &config, all)?)
+}
+
 #[test]
 fn runs_along_epsilon_transitions(rt: HostRuntime) -> Result<(), Fail> {
-    let automaton = by_members(rt.alloc())?;
-    for (state, all) in CLOSURES {
-        assert_eq!(rt; automaton.eps_closure(*state)?.as_slice(), *all);
-        assert!(rt; is_run(&automaton, &Config::State(*state), all)?);
-    }
-    let held = nested(rt.alloc(), Config::State(0))?;
-    assert!(rt; is_run(&automaton, &held, &[2, 3, 4])?);
-    let stuck = nested(rt.alloc(), Config::State(1))?;
-    assert!(rt; is_run(&automaton, &stuck, &[])?);
+    assert!(rt; are_closures(rt.alloc())?);
+    assert!(rt; runs_to(rt.alloc(), 0, &[2, 3, 4])?);
+    assert!(rt; runs_to(rt.alloc(), 1, &[])?);
     Ok(())
 }
 
@@ -246,11 +297,20 @@ fn set(alloc: Global) -> Result<StateSet, AllocError> {
     StateSet::from_slice(alloc, &[1, 4, 7])
 }
 
+// Whether a set and a copied map have the members that they are made of.
+fn is_set(alloc: Global, states: &[u32]) -> Result<bool, AllocError> {
+    Ok(set(alloc)?.as_slice() == states)
+}
+
+fn is_map(alloc: Global, images: &[u32]) -> Result<bool, AllocError> {
+    let map = Map::from_slice(alloc, images)?;
+    Ok(map.copy(alloc)?.as_slice() == images)
+}
+
 #[test]
 fn sets_maps_and_options_are_their_members(rt: HostRuntime) -> Result<(), Fail> {
-    assert_eq!(rt; set(rt.alloc())?.as_slice(), [1, 4, 7].as_slice());
-    let map = Map::from_slice(rt.alloc(), &[3, 0, 3])?;
-    assert_eq!(rt; map.copy(rt.alloc())?.as_slice(), [3, 0, 3].as_slice());
+    assert!(rt; is_set(rt.alloc(), &[1, 4, 7])?);
+    assert!(rt; is_map(rt.alloc(), &[3, 0, 3])?);
     let o = Options::default();
     let numbers = [o.rounds, o.steps, o.height, o.terms, o.pairs, o.states];
     assert_eq!(rt; numbers, [20, 5, 4, 5000, 100000, 4096]);

@@ -1,4 +1,4 @@
-//! Terms, their texts, steps and derivations, on examples worked out by hand.
+//! Terms of 1,024 symbols: their texts, steps and derivations.
 use crate::texts::system_of;
 use ranked_terms::{
     Binding, Pattern, Position, Seq, Signature, Term, instance, laws, match_term, term_from,
@@ -7,16 +7,8 @@ use std::alloc::{AllocError, Global};
 use std::test::Fail;
 use trs_rules::{DStep, Derivation, Rule, Successor, first_bad_step, replays, successors};
 
-/// Rules that overlap.
-const OVERLAPPING: &str = "Ops a:0 b:0 s:1 g:1 c:2 Vars x TRS R s(x) -> c(x,x) s(s(x)) -> x a -> b
-    Automaton A States Final States Transitions";
-
 /// A rule for a constant.
 const RENAMING: &str = "Ops a:0 b:0 s:1 TRS R a -> b Automaton A States Final States Transitions";
-
-/// A rule by which a term grows.
-const GROWING: &str =
-    "Ops a:0 s:1 g:1 Vars x TRS R g(x) -> g(s(x)) Automaton A States Final States Transitions";
 
 /// The term that a text spells.
 fn term(alloc: Global, signature: &Signature, text: &str) -> Result<Term, Fail> {
@@ -41,56 +33,6 @@ fn is_text(alloc: Global, signature: &Signature, text: &[u8]) -> Result<bool, Fa
     Ok(found.is_some_and(|out| out.as_slice().strip_prefix(b"-> ") == Some(text)))
 }
 
-/// Texts of terms.
-const TERMS: &[&[u8]] = &[b"a", b"g(a)", b"c(g(a),b)", b"c(c(a,b),s(g(b)))"];
-
-/// Texts that are almost terms.
-const OTHERS: &[&[u8]] = &[
-    b"",
-    b" ",
-    b"a ",
-    b" a",
-    b"a()",
-    b"a,",
-    b"aa",
-    b"d",
-    b"s",
-    b"s(",
-    b"s()",
-    b"s(a",
-    b"s(a))",
-    b"s(a)a",
-    b"s(a)(",
-    b"s(a,a)",
-    b"s(a,)",
-    b"s (a)",
-    b"s( a)",
-    b"(a)",
-    b"c(a)",
-    b"c(a,",
-    b"c(a,)",
-    b"c(,a)",
-    b"c(a b)",
-    b"c(a,b",
-    b"c(a,b,a)",
-    b"c(a;b)",
-    b"s[a]",
-    b"S(a)",
-    b"s(\xff)",
-];
-
-#[test]
-fn texts_spell_terms_and_terms_are_printed(rt: HostRuntime) -> Result<(), Fail> {
-    let (signature, _) = system_of(rt.alloc(), OVERLAPPING)?;
-    for text in TERMS {
-        assert!(rt; is_text(rt.alloc(), &signature, text)?);
-    }
-    for text in OTHERS {
-        assert!(rt; printed(rt.alloc(), &signature, text)?.is_none());
-    }
-    Ok(())
-}
-
 /// The positions of the term that a text spells, and the steps from it.
 fn steps_of(
     alloc: Global,
@@ -112,34 +54,6 @@ fn steps_of(
     Ok((positions, steps))
 }
 
-/// The steps from `c(s(s(a)),a)` by the rules that overlap.
-const STEPS: &[(u32, &[u32], &str)] = &[
-    (0, &[1], "c(c(s(a),s(a)),a)"),
-    (0, &[1, 1], "c(s(c(a,a)),a)"),
-    (1, &[1], "c(a,a)"),
-    (2, &[1, 1, 1], "c(s(s(b)),a)"),
-    (2, &[2], "c(s(s(a)),b)"),
-];
-
-/// Whether these are the steps of the table.
-fn are_steps(alloc: Global, signature: &Signature, found: &[Successor]) -> Result<bool, Fail> {
-    for (step, (number, at, text)) in found.iter().zip(STEPS.iter()) {
-        let is_place = step.rule == *number && step.at.as_slice() == *at;
-        if !is_place || step.term != term(alloc, signature, text)? {
-            return Ok(false);
-        }
-    }
-    Ok(found.len() == STEPS.len())
-}
-
-#[test]
-fn steps_are_found_by_rule_and_then_position(rt: HostRuntime) -> Result<(), Fail> {
-    let (signature, rules) = system_of(rt.alloc(), OVERLAPPING)?;
-    let (_, found) = steps_of(rt.alloc(), &signature, rules.as_slice(), "c(s(s(a)),a)")?;
-    assert!(rt; are_steps(rt.alloc(), &signature, found.as_slice())?);
-    Ok(())
-}
-
 /// The first bad step of a derivation, after a test that a copy of it replays where there is none.
 fn bad_step(alloc: Global, rules: &[Rule], derivation: &Derivation) -> Result<Option<u32>, Fail> {
     let copy = derivation.copy(alloc)?;
@@ -151,51 +65,6 @@ fn bad_step(alloc: Global, rules: &[Rule], derivation: &Derivation) -> Result<Op
         return Err("they differ".into());
     }
     Ok(bad)
-}
-
-/// The derivation along the terms of these texts, each step by the rule 0 at the root.
-fn along(
-    alloc: Global,
-    signature: &Signature,
-    start: &str,
-    texts: &[&str],
-) -> Result<Derivation, Fail> {
-    let mut steps = Seq::new(alloc);
-    for text in texts {
-        steps.push(DStep {
-            rule: 0,
-            at: Position::from_slice(alloc, &[])?,
-            term: term(alloc, signature, text)?,
-        })?;
-    }
-    let start = term(alloc, signature, start)?;
-    Ok(Derivation { start, steps })
-}
-
-/// The terms after `g(a)`, and the first of them to which no step leads.
-const DERIVATIONS: &[(&[&str], Option<u32>)] = &[
-    (&["g(s(a))", "g(s(s(a)))"], None),
-    (&["g(s(a))", "g(s(a))"], Some(2)),
-    (&["g(a)", "g(s(a))"], Some(1)),
-    (&[], None),
-];
-
-/// Whether the first bad step of each derivation of the table is the one that stands there.
-fn are_bad_steps(alloc: Global, signature: &Signature, rules: &[Rule]) -> Result<bool, Fail> {
-    for (texts, expected) in DERIVATIONS {
-        let derivation = along(alloc, signature, "g(a)", texts)?;
-        if bad_step(alloc, rules, &derivation)? != *expected {
-            return Ok(false);
-        }
-    }
-    Ok(true)
-}
-
-#[test]
-fn the_first_bad_step_is_named(rt: HostRuntime) -> Result<(), Fail> {
-    let (signature, rules) = system_of(rt.alloc(), GROWING)?;
-    assert!(rt; are_bad_steps(rt.alloc(), &signature, rules.as_slice())?);
-    Ok(())
 }
 
 /// `s` so many times before `a`.
@@ -227,16 +96,35 @@ fn has_subterm(alloc: Global, term: &Term, at: &Position) -> Result<bool, AllocE
     Ok(term.subterm(at).is_some() && whole.is_some())
 }
 
+/// Whether the text of so many symbols spells a term, which is printed so, and has this size and height.
+fn is_tower(alloc: Global, height: u32) -> Result<bool, Fail> {
+    let (signature, _) = system_of(alloc, RENAMING)?;
+    let text = tower(alloc, height)?;
+    is_text(alloc, &signature, text.as_bytes())
+}
+
+/// The measures of the term of 1,024 symbols.
+fn deep_measures(alloc: Global) -> Result<[u32; 4], Fail> {
+    let (signature, _) = system_of(alloc, RENAMING)?;
+    let text = tower(alloc, 1023)?;
+    let deep = term(alloc, &signature, text.as_str())?;
+    Ok(measures(&deep))
+}
+
+/// Whether the bytes are no text of a term.
+fn is_no_text(alloc: Global, text: &[u8]) -> Result<bool, Fail> {
+    let (signature, _) = system_of(alloc, RENAMING)?;
+    let found = printed(alloc, &signature, text)?;
+    Ok(found.is_none())
+}
+
 #[test]
 fn a_text_of_1024_symbols_spells_a_term(rt: HostRuntime) -> Result<(), Fail> {
-    let (signature, _) = system_of(rt.alloc(), RENAMING)?;
-    let text = tower(rt.alloc(), 1023)?;
-    assert!(rt; is_text(rt.alloc(), &signature, text.as_bytes())?);
-    let deep = term(rt.alloc(), &signature, text.as_str())?;
-    assert_eq!(rt; measures(&deep), [1024, 7, 1024, 7]);
+    assert!(rt; is_tower(rt.alloc(), 1023)?);
+    assert_eq!(rt; deep_measures(rt.alloc())?, [1024, 7, 1024, 7]);
     // One symbol more is one too many.
-    let text = tower(rt.alloc(), 1024)?;
-    assert!(rt; printed(rt.alloc(), &signature, text.as_bytes())?.is_none());
+    assert!(rt; !is_tower(rt.alloc(), 1024)?);
+    assert!(rt; is_no_text(rt.alloc(), b"s(\xff)")?);
     Ok(())
 }
 
@@ -259,16 +147,40 @@ fn is_replayed(alloc: Global, rules: &[Rule], start: Term, step: &Successor) -> 
     Ok(bad_step(alloc, rules, &derivation)?.is_none())
 }
 
+/// Whether each of the steps from the term that the text spells is replayed.
+fn are_replayed(
+    alloc: Global,
+    signature: &Signature,
+    rules: &[Rule],
+    text: &str,
+    steps: &[Successor],
+) -> Result<bool, Fail> {
+    for step in steps {
+        let start = term(alloc, signature, text)?;
+        if !is_replayed(alloc, rules, start, step)? {
+            return Ok(false);
+        }
+    }
+    Ok(true)
+}
+
+/// Whether the term of 1,024 symbols has so many positions and one step, which is replayed.
+fn has_one_step(alloc: Global, signature: &Signature, rules: &[Rule]) -> Result<bool, Fail> {
+    let text = tower(alloc, 1023)?;
+    let (positions, found) = steps_of(alloc, signature, rules, text.as_str())?;
+    let are_all = are_replayed(alloc, signature, rules, text.as_str(), found.as_slice())?;
+    Ok(positions.len() == 1024 && found.len() == 1 && are_all)
+}
+
+/// Whether it is so by the rule for a constant.
+fn is_renamed_in_one_step(alloc: Global) -> Result<bool, Fail> {
+    let (signature, rules) = system_of(alloc, RENAMING)?;
+    has_one_step(alloc, &signature, rules.as_slice())
+}
+
 #[test]
 fn a_step_inside_of_1024_symbols_is_found_and_replays(rt: HostRuntime) -> Result<(), Fail> {
-    let (signature, rules) = system_of(rt.alloc(), RENAMING)?;
-    let text = tower(rt.alloc(), 1023)?;
-    let (positions, found) = steps_of(rt.alloc(), &signature, rules.as_slice(), text.as_str())?;
-    assert_eq!(rt; (positions.len(), found.len()), (1024, 1));
-    for step in found.as_slice() {
-        let deep = term(rt.alloc(), &signature, text.as_str())?;
-        assert!(rt; is_replayed(rt.alloc(), rules.as_slice(), deep, step)?);
-    }
+    assert!(rt; is_renamed_in_one_step(rt.alloc())?);
     Ok(())
 }
 
@@ -291,18 +203,39 @@ fn nested_rule(alloc: Global, sym: u32, height: u32) -> Result<Rule, Fail> {
     Ok(rule)
 }
 
+/// Whether the steps are one at the root to the term that the text spells.
+fn is_root_step(
+    alloc: Global,
+    signature: &Signature,
+    text: &str,
+    steps: &[Successor],
+) -> Result<bool, Fail> {
+    let [step] = steps else {
+        return Ok(false);
+    };
+    let end = term(alloc, signature, text)?;
+    Ok(step.at.as_slice().is_empty() && step.term == end)
+}
+
+/// Whether the rule has one step from the term of 1,024 symbols, at the root and to the term itself.
+fn has_root_step(alloc: Global, signature: &Signature, rule: Rule) -> Result<bool, Fail> {
+    let text = tower(alloc, 1023)?;
+    let rules = [rule];
+    let (_, found) = steps_of(alloc, signature, &rules, text.as_str())?;
+    is_root_step(alloc, signature, text.as_str(), found.as_slice())
+}
+
+/// Whether it is so of the rule from so many symbols before a variable to the same.
+fn is_matched_at_the_root(alloc: Global, height: u32) -> Result<bool, Fail> {
+    let (signature, _) = system_of(alloc, RENAMING)?;
+    let sym = signature.find("s").ok_or("no symbol")?;
+    let rule = nested_rule(alloc, sym, height)?;
+    has_root_step(alloc, &signature, rule)
+}
+
 #[test]
 fn a_rule_of_1023_nested_symbols_matches_1024(rt: HostRuntime) -> Result<(), Fail> {
-    let (signature, _) = system_of(rt.alloc(), RENAMING)?;
-    let sym = signature.find("s").ok_or("no symbol")?;
-    let rules = [nested_rule(rt.alloc(), sym, 1023)?];
-    let text = tower(rt.alloc(), 1023)?;
-    let (_, found) = steps_of(rt.alloc(), &signature, &rules, text.as_str())?;
-    assert_eq!(rt; found.len(), 1);
-    for step in found.as_slice() {
-        assert!(rt; step.at.as_slice().is_empty());
-        assert!(rt; step.term == term(rt.alloc(), &signature, text.as_str())?);
-    }
+    assert!(rt; is_matched_at_the_root(rt.alloc(), 1023)?);
     Ok(())
 }
 
@@ -354,17 +287,37 @@ fn is_made_again(alloc: Global, sym: u32, height: u32, term: &Term) -> Result<bo
     Ok(made.is_some_and(|made| made == *term))
 }
 
+/// The term of 1,024 symbols, built.
+fn built_tower(alloc: Global, signature: &Signature, sym: u32) -> Result<Term, Fail> {
+    let constant = signature.find("a").ok_or("no symbol")?;
+    let built = built(alloc, signature, sym, constant, 1023)?;
+    let deep = built.ok_or("another arity")?;
+    Ok(deep)
+}
+
+/// Whether the text of 1,024 symbols spells the term that is built of them.
+fn is_built_as_spelled(alloc: Global) -> Result<bool, Fail> {
+    let (signature, _) = system_of(alloc, RENAMING)?;
+    let sym = signature.find("s").ok_or("no symbol")?;
+    let deep = built_tower(alloc, &signature, sym)?;
+    let text = tower(alloc, 1023)?;
+    let spelled = term(alloc, &signature, text.as_str())?;
+    Ok(deep == spelled)
+}
+
+/// Whether so many symbols before a variable match the built term, and make it again.
+fn is_built_made_again(alloc: Global, height: u32) -> Result<bool, Fail> {
+    let (signature, _) = system_of(alloc, RENAMING)?;
+    let sym = signature.find("s").ok_or("no symbol")?;
+    let deep = built_tower(alloc, &signature, sym)?;
+    is_made_again(alloc, sym, height, &deep)
+}
+
 #[test]
 fn a_built_term_of_1024_symbols_is_matched_and_made_again(rt: HostRuntime) -> Result<(), Fail> {
-    let (signature, _) = system_of(rt.alloc(), RENAMING)?;
-    let sym = signature.find("s").ok_or("no symbol")?;
-    let constant = signature.find("a").ok_or("no symbol")?;
-    let built = built(rt.alloc(), &signature, sym, constant, 1023)?;
-    let deep = built.ok_or("another arity")?;
-    let text = tower(rt.alloc(), 1023)?;
-    assert!(rt; deep == term(rt.alloc(), &signature, text.as_str())?);
-    assert!(rt; is_made_again(rt.alloc(), sym, 1023, &deep)?);
+    assert!(rt; is_built_as_spelled(rt.alloc())?);
+    assert!(rt; is_built_made_again(rt.alloc(), 1023)?);
     // The term has no further symbol below its 1,023.
-    assert!(rt; !is_made_again(rt.alloc(), sym, 1024, &deep)?);
+    assert!(rt; !is_built_made_again(rt.alloc(), 1024)?);
     Ok(())
 }

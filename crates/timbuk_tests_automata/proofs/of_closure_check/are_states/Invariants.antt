@@ -1,6 +1,0 @@
-use Rattle.std.proofs.Common.{take}
-use Rattle.std.specs.List.{All, Contains}
-use Rattle.timbuk_tests_automata.proofs.of_closure_check.are_states.Given as goal
-
-abbrev pub invariant-loop-number : goal.invariant-loop-number
-invariant-loop-number l = All (Contains l.states) (take l.number-index l.numbers)

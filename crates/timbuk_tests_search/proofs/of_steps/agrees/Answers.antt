@@ -1,5 +1,0 @@
-use Rattle.timbuk_tests_search.proofs.of_steps.agrees.Goals as goal
-
-pub successors-requires-clause-arguments : goal.successors-requires-clause-arguments
-successors-requires-clause-arguments c =
-    c.of_terms_over.ensures.narrow c.args.signature.now c.len-symbols.ensures.valid c.in-Some.term ((c.in_ok-term.ensures c.in-Some.term).0 c.in-Some.is).over

@@ -1,6 +1,0 @@
-use Rattle.std.proofs.Common.{◌<◌, length, take}
-use Rattle.std.specs.List.{All}
-use Rattle.timbuk_tests_search.proofs.of_steps.are_kept.Given as goal
-
-abbrev pub invariant-loop-id : goal.invariant-loop-id
-invariant-loop-id l = All (λ a. a < length l.store) (take l.id-index l.ids)
