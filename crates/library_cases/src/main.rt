@@ -24,7 +24,7 @@ use outcomes::print_undecided;
 use std::alloc::{AllocError, Global};
 use std::{env, fs};
 use ta_core::Spec;
-use table::{Call, Table};
+use table::{Call, Table, Text, Undecided};
 use timbuk_reader::read_spec;
 
 /// The table in a file.
@@ -70,22 +70,49 @@ fn answer_over(alloc: Global, spec: &Spec, call: &Call) -> Result<Option<String>
     Ok(Some(answer))
 }
 
+/// What a call answers over the specification in a file, and nothing where there is none of the name.
+fn answer_over_file(rt: &HostRuntime, call: &Call) -> Result<Option<String>, Error> {
+    match spec_of(rt, call.spec.as_str())? {
+        Some(spec) => Ok(answer_over(rt.alloc(), &spec, call)?),
+        None => Ok(None),
+    }
+}
+
+/// What a call answers, and nothing where there is none of the name.
+fn answer_to(rt: &HostRuntime, call: &Call) -> Result<Option<String>, Error> {
+    let on_texts = texts::answer(rt.alloc(), call.call.as_str(), call.texts.as_slice())?;
+    if on_texts.is_some() {
+        return Ok(on_texts);
+    }
+    answer_over_file(rt, call)
+}
+
 /// Prints what a call answers.
 fn print_call(rt: &HostRuntime, call: &Call) -> Result<(), Error> {
     println!(rt; "\n{}", call.shows)?;
-    let on_text = texts::answer(rt.alloc(), call.call.as_str(), call.texts.as_slice())?;
-    let answer = match on_text {
-        Some(answer) => Some(answer),
-        None => match spec_of(rt, call.spec.as_str())? {
-            Some(spec) => answer_over(rt.alloc(), &spec, call)?,
-            None => None,
-        },
-    };
-    match answer {
+    match answer_to(rt, call)? {
         Some(answer) => println!(rt; "{}", answer.trim_end())?,
         None => println!(rt; "no such call")?,
     }
     Ok(())
+}
+
+/// Prints what the reader answers to a text.
+fn print_text(rt: &HostRuntime, case: &Text) -> Result<(), Error> {
+    println!(rt; "\n{}", case.shows)?;
+    match spec_of(rt, case.spec.as_str())? {
+        Some(spec) => print_certificate(rt, &spec, case.text.as_bytes()),
+        None => Ok(println!(rt; "no specification")?),
+    }
+}
+
+/// Prints the text of an undecided outcome.
+fn print_outcome(rt: &HostRuntime, case: &Undecided) -> Result<(), Error> {
+    println!(rt; "\n{}", case.shows)?;
+    match spec_of(rt, case.spec.as_str())? {
+        Some(spec) => print_undecided(rt, &spec, case),
+        None => Ok(println!(rt; "no specification")?),
+    }
 }
 
 /// Runs the cases of a table.
@@ -94,18 +121,10 @@ fn run_table(rt: &HostRuntime, table: &Table) -> Result<(), Error> {
         print_call(rt, call)?;
     }
     for case in table.certificate.as_slice() {
-        println!(rt; "\n{}", case.shows)?;
-        match spec_of(rt, case.spec.as_str())? {
-            Some(spec) => print_certificate(rt, &spec, case.text.as_bytes())?,
-            None => println!(rt; "no specification")?,
-        }
+        print_text(rt, case)?;
     }
     for case in table.undecided.as_slice() {
-        println!(rt; "\n{}", case.shows)?;
-        match spec_of(rt, case.spec.as_str())? {
-            Some(spec) => print_undecided(rt, &spec, case)?,
-            None => println!(rt; "no specification")?,
-        }
+        print_outcome(rt, case)?;
     }
     Ok(())
 }

@@ -3,6 +3,7 @@ use crate::automata::automaton_line;
 use crate::members::number_at;
 use crate::pairs::pair_line;
 use completion::{Core, StageEnd};
+use critical_pairs::PairError;
 use std::alloc::{AllocError, Global};
 use ta_core::{Options, Spec};
 
@@ -36,16 +37,27 @@ pub fn last_stage(alloc: Global, spec: &Spec, numbers: &[u32]) -> Result<String,
     told(alloc, &core, &end)
 }
 
+/// The open pairs of a stage, each in a line.
+fn open_lines(alloc: Global, core: &Core) -> Result<String, AllocError> {
+    match core.open_list() {
+        Ok(pairs) => pair_line(alloc, pairs.as_slice()),
+        Err(PairError::More) => format!(in alloc; "more"),
+        Err(PairError::Memory) => Err(AllocError),
+    }
+}
+
+/// The automaton, the map and the open pairs of a stage.
+fn stage_lines(alloc: Global, core: &Core) -> Result<String, AllocError> {
+    let automaton = automaton_line(alloc, core.automaton())?;
+    let pairs = open_lines(alloc, core)?;
+    format!(in alloc; "{automaton} {:?}\n{pairs}", core.map().as_slice())
+}
+
 /// The automaton, the map and the open pairs of the first stage.
 pub fn first_stage(alloc: Global, spec: &Spec) -> Result<String, AllocError> {
     if spec.rules.len() > 1000 {
         return format!(in alloc; "many rules");
     }
     let core = Core::start(alloc, spec, Options::default())?;
-    let automaton = automaton_line(alloc, core.automaton())?;
-    let pairs = match core.open_list() {
-        Ok(pairs) => pair_line(alloc, pairs.as_slice())?,
-        Err(_) => format!(in alloc; "too many")?,
-    };
-    format!(in alloc; "{automaton} {:?}\n{pairs}", core.map().as_slice())
+    stage_lines(alloc, &core)
 }
