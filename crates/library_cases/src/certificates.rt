@@ -3,9 +3,10 @@ ghost use Rattle.std.specs.Prelude.{◌≡◌, ◌<◌, IsTrue};
 ghost use Rattle.cert_text.specs.Certificates.{IsWithin, outcome_is_over};
 ghost use Rattle.library_cases.specs.Outcomes.{outcome_of};
 
-use anyhow::Error;
+use crate::members::text_at;
 use cert_text::{CertError, Certificate, Outcome, cert_bytes, read_cert};
 use closure_check::check_derivation;
+use std::alloc::{AllocError, Global};
 use ta_core::Spec;
 
 /// The most bytes of a text that is read.
@@ -32,47 +33,50 @@ fn told(certificate: Certificate) -> Outcome
 }
 
 // What the certificate is, and what the replay of its derivation answers, if it has one.
-fn print_kind(rt: &HostRuntime, spec: &Spec, certificate: &Certificate) -> Result<(), Error>
+fn kind_line(alloc: Global, spec: &Spec, certificate: &Certificate) -> Result<String, AllocError>
     requires { IsWithin spec.now certificate.now }
 {
     match certificate {
-        Certificate::Unreachable { .. } => println!(rt; "Read unreachable")?,
+        Certificate::Unreachable { .. } => format!(in alloc; "Read unreachable"),
         Certificate::Reachable(derivation) => {
             let answer = check_derivation(spec, derivation)?;
-            println!(rt; "Read reachable, replayed {answer:?}")?;
+            format!(in alloc; "Read reachable, replayed {answer:?}")
         }
     }
-    Ok(())
 }
 
 // Whether the outcome's text is this one.
-fn print_again(rt: &HostRuntime, spec: &Spec, outcome: &Outcome, text: &[u8]) -> Result<(), Error>
+fn again_line(
+    alloc: Global,
+    spec: &Spec,
+    outcome: &Outcome,
+    text: &[u8],
+) -> Result<String, AllocError>
     requires { IsTrue (outcome_is_over spec.now.signature outcome.now) }
 {
-    let written = cert_bytes(rt.alloc(), spec, outcome)?;
+    let written = cert_bytes(alloc, spec, outcome)?;
     if written.as_slice() == text {
-        println!(rt; "Written as it was read")?;
+        format!(in alloc; "Written as it was read")
     } else {
-        println!(rt; "Written otherwise")?;
+        format!(in alloc; "Written otherwise")
     }
-    Ok(())
 }
 
-/// Prints what the reader answers to the text, and whether what it reads is written as it was read.
-pub fn print_certificate(rt: &HostRuntime, spec: &Spec, text: &[u8]) -> Result<(), Error> {
+/// What the reader answers to the first text, and whether what it reads is written as it was read.
+pub fn read_again(alloc: Global, spec: &Spec, texts: &[String]) -> Result<String, AllocError> {
+    let text = text_at(texts, 0).as_bytes();
     if text.len() > MAX_TEXT {
-        println!(rt; "too long")?;
-        return Ok(());
+        return format!(in alloc; "too long");
     }
-    match read_cert(rt.alloc(), spec, text) {
+    match read_cert(alloc, spec, text) {
         Ok(certificate) => {
-            print_kind(rt, spec, &certificate)?;
-            print_again(rt, spec, &told(certificate), text)?;
+            let kind = kind_line(alloc, spec, &certificate)?;
+            let again = again_line(alloc, spec, &told(certificate), text)?;
+            format!(in alloc; "{kind}\n{again}")
         }
         Err(CertError::Fault(fault)) => {
-            println!(rt; "Bad certificate line {}: {:?}", fault.line, fault.kind)?;
+            format!(in alloc; "Bad certificate line {}: {:?}", fault.line, fault.kind)
         }
-        Err(CertError::Memory) => println!(rt; "no memory")?,
+        Err(CertError::Memory) => Err(AllocError),
     }
-    Ok(())
 }

@@ -19,12 +19,10 @@ mod table;
 mod texts;
 
 use anyhow::Error;
-use certificates::print_certificate;
-use outcomes::print_undecided;
 use std::alloc::{AllocError, Global};
 use std::{env, fs};
 use ta_core::Spec;
-use table::{Call, Table, Text, Undecided};
+use table::{Call, Table};
 use timbuk_reader::read_spec;
 
 /// The table in a file.
@@ -65,6 +63,8 @@ fn answer_over(alloc: Global, spec: &Spec, call: &Call) -> Result<Option<String>
         "forced pairs" => merging::forced_pairs(alloc, spec, numbers)?,
         "merged" => merging::merged_with_images(alloc, spec)?,
         "joined" => merging::joined(alloc, spec, numbers)?,
+        "certificate" => certificates::read_again(alloc, spec, texts)?,
+        "undecided" => outcomes::undecided_text(alloc, spec, texts, numbers)?,
         _ => return Ok(None),
     };
     Ok(Some(answer))
@@ -97,43 +97,13 @@ fn print_call(rt: &HostRuntime, call: &Call) -> Result<(), Error> {
     Ok(())
 }
 
-/// Prints what the reader answers to a text.
-fn print_text(rt: &HostRuntime, case: &Text) -> Result<(), Error> {
-    println!(rt; "\n{}", case.shows)?;
-    match spec_of(rt, case.spec.as_str())? {
-        Some(spec) => print_certificate(rt, &spec, case.text.as_bytes()),
-        None => Ok(println!(rt; "no specification")?),
-    }
-}
-
-/// Prints the text of an undecided outcome.
-fn print_outcome(rt: &HostRuntime, case: &Undecided) -> Result<(), Error> {
-    println!(rt; "\n{}", case.shows)?;
-    match spec_of(rt, case.spec.as_str())? {
-        Some(spec) => print_undecided(rt, &spec, case),
-        None => Ok(println!(rt; "no specification")?),
-    }
-}
-
-/// Runs the cases of a table.
-fn run_table(rt: &HostRuntime, table: &Table) -> Result<(), Error> {
-    for call in table.call.as_slice() {
-        print_call(rt, call)?;
-    }
-    for case in table.certificate.as_slice() {
-        print_text(rt, case)?;
-    }
-    for case in table.undecided.as_slice() {
-        print_outcome(rt, case)?;
-    }
-    Ok(())
-}
-
 fn main(rt: HostRuntime) -> Result<(), Error> {
     for name in env::args(&rt)?.skip(1) {
         println!(rt; "== {name}")?;
         let table = read_table(&rt, name.as_str())?;
-        run_table(&rt, &table)?;
+        for call in table.call.as_slice() {
+            print_call(&rt, call)?;
+        }
     }
     Ok(())
 }
