@@ -7,7 +7,7 @@ use Rattle.timbuk_reader.proofs.keeping.Start.{fresh_start}
 use Rattle.timbuk_reader.proofs.keeping.Texts.{ReadTo, read_from, stopped, settled_ok}
 use Rattle.spec_text.specs.lemmas.Specs.{any_last}
 use Rattle.timbuk_reader.specs.declared.fault.SpecError.TheVariants as error
-use Rattle.timbuk_reader.proofs.reader.read_text.Goals as goal
+use Rattle.timbuk_reader.proofs.reader.read_lexed.Goals as goal
 
 pub text-requires : goal.text-requires
 text-requires c = fresh_start c.new-reader.result c.new-reader.ensures.state
@@ -17,7 +17,7 @@ returns-clause-read c =
     let bytes = c.args.bytes.now in
     let r = c.new-reader.result in
     let spec = c.in_ok-into_spec.field-0 in
-    let here = read_from bytes c.in_ok-lexed.lexed r c.in_ok-lexed.ensures.exact c.new-reader.ensures.tokens c.new-reader.ensures.state c.new-reader.ensures.end in
+    let here = read_from bytes c.args.lexed.now r c.requires.exact c.new-reader.ensures.tokens c.new-reader.ensures.state c.new-reader.ensures.end in
     let found : ReadTo (read bytes) (state_of c.text.new.self) = settled_ok (read bytes) (state_of c.text.new.self) (sym here ∙ c.in_ok-text.ensures.ok) in
     record {
       declared = found.declared;
@@ -29,7 +29,7 @@ pub returns-in_err-text-clause-stops : goal.returns-in_err-text-clause-stops
 returns-in_err-text-clause-stops c told e =
     let bytes = c.args.bytes.now in
     let r = c.new-reader.result in
-    let here = read_from bytes c.in_ok-lexed.lexed r c.in_ok-lexed.ensures.exact c.new-reader.ensures.tokens c.new-reader.ensures.state c.new-reader.ensures.end in
-    let answered = err_from_is_err_and c.from_residual-in_err-text.result c.from_residual-in_err-text.ensures.1 in
+    let here = read_from bytes c.args.lexed.now r c.requires.exact c.new-reader.ensures.tokens c.new-reader.ensures.state c.new-reader.ensures.end in
+    let answered = err_from_is_err_and c.from_residual.result c.from_residual.ensures.1 in
     let same : c.in_err-text.field-0.0 ≡ error.Fault told = cc (answered.1, e, answered.2) in
     stopped (read bytes) told (sym (ap as_error here) ∙ c.in_err-text.ensures.err (λ m. cc (same, m)) ∙ ap Err same)
