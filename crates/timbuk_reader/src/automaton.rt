@@ -42,13 +42,6 @@ impl StartedAutomaton {
 
 impl<'s, 'a> Reader<'s, 'a> {
     /// An automaton, from its word on. It is refused where there are two.
-    #[rattlefmt::skip]
-    #[tactic(auto, using(
-        crate::proofs::parsing::Parts::then_reads,
-        crate::proofs::parsing::Parts::then_stops,
-        crate::proofs::parsing::Parts::then_advances,
-        crate::proofs::parsing::Parts::later_stops
-    ))]
     pub(crate) fn automaton(&mut self) -> Result<(), SpecError>
         ensures shorter { OnOk result (Shorter self.old self.new) }
         ensures reads { Reads grammar.automaton closed self.old result closed self.new }
@@ -325,13 +318,6 @@ impl<'s, 'a> Reader<'s, 'a> {
     }
 
     /// The final states.
-    #[rattlefmt::skip]
-    #[tactic(auto, using(
-        crate::proofs::parsing::Parts::then_reads,
-        crate::proofs::parsing::Parts::then_stops,
-        crate::proofs::parsing::Parts::then_advances,
-        crate::proofs::parsing::Parts::later_stops
-    ))]
     fn final_states(&mut self) -> Result<(), SpecError>
         requires { IsInAutomaton self.old }
         ensures shorter { OnOk result (Shorter self.old self.new) }
@@ -396,13 +382,6 @@ impl<'s, 'a> Reader<'s, 'a> {
 
 impl<'s, 'a> Reader<'s, 'a> {
     /// The transitions, those under `Prior` first.
-    #[rattlefmt::skip]
-    #[tactic(auto, using(
-        crate::proofs::parsing::Parts::then_reads,
-        crate::proofs::parsing::Parts::then_stops,
-        crate::proofs::parsing::Parts::then_advances,
-        crate::proofs::parsing::Parts::later_stops
-    ))]
     fn transitions(&mut self) -> Result<(), SpecError>
         requires { IsInAutomaton self.old }
         ensures no_longer { OnOk result (NoLonger self.old self.new) }
