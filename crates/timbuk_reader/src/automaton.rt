@@ -73,7 +73,6 @@ impl<'s, 'a> Reader<'s, 'a> {
     }
 
     /// The name of a section, which has no effect. It is refused only as a name of more than `MAX_NAME` bytes.
-    #[tactic(auto, using(crate::proofs::parsing::Tokens::no_word_stops, crate::proofs::parsing::Tokens::closed_calm))]
     pub(crate) fn title(&mut self) -> Result<(), SpecError>
         ensures shorter { OnOk result (Shorter self.old self.new) }
         ensures reads { Reads (grammar.name role.Title) closed self.old result closed self.new }
@@ -115,7 +114,6 @@ impl<'s, 'a> Reader<'s, 'a> {
 
     /// The name of a state, which is added. It is refused where there are `MAX_STATES` states, and where a symbol, a variable or
     /// one of these states has the name.
-    #[tactic(auto, using(crate::proofs::parsing::Tokens::no_word_stops, crate::proofs::parsing::Tokens::closed_calm))]
     fn state_name(&mut self, role: Role) -> Result<(), SpecError>
         requires { MayDeclare role self.old }
         ensures shorter { OnOk result (Shorter self.old self.new) }
@@ -298,15 +296,6 @@ impl<'s, 'a> Reader<'s, 'a> {
     }
 
     /// A state of the automaton with its description.
-    #[rattlefmt::skip]
-    #[tactic(auto, using(
-        crate::proofs::parsing::Parts::then_reads,
-        crate::proofs::parsing::Parts::then_stops,
-        crate::proofs::parsing::Parts::then_advances,
-        crate::proofs::parsing::Parts::later_stops,
-        crate::proofs::parsing::Automaton::described_advances,
-        crate::proofs::parsing::Automaton::stops_closed
-    ))]
     fn described_state(&mut self) -> Result<(), SpecError>
         ensures shorter { OnOk result (Shorter self.old self.new) }
         ensures reads { Reads described closed self.old result closed self.new }
