@@ -1,5 +1,5 @@
 //! The reader of input texts.
-ghost use Rattle.std.specs.Prelude.{◌≡◌, ◌⊎◌, ◌<◌, ◌≤◌, ◌-◌, ◌^◌, ◌==◌, not, All, Ok, Err, IfOk, OnOk, IsTrue, filter, length};
+ghost use Rattle.std.specs.Prelude.{◌≡◌, ◌≢◌, ◌⊎◌, ◌<◌, ◌≤◌, ◌-◌, ◌^◌, ◌==◌, not, All, Ok, Err, IfOk, IfErr, OnOk, IsTrue, filter, length};
 ghost use Rattle.std.specs.List.{range_with_len};
 ghost use Rattle.ta_core.specs.TreeAutomaton.{bare};
 ghost use Rattle.ta_core.specs.declared.spec.Spec.{Spec as Spelled};
@@ -13,7 +13,9 @@ ghost use Rattle.spec_text.specs.Spelled.{IsAutomatonOf, IsSpecOf};
 ghost use Rattle.spec_text.specs.SpecText.{SpecText};
 ghost use Rattle.spec_text.specs.Faults.{SpecFaultAt};
 ghost use Rattle.spec_text.specs.Laws.{IsRead};
-ghost use Rattle.timbuk_reader.specs.View.{started, state_of, end_line, end_column, end_of};
+ghost use Rattle.timbuk_reader.specs.Reads.{IsFresh};
+ghost use Rattle.timbuk_reader.specs.SectionReads.{from_start};
+ghost use Rattle.timbuk_reader.specs.View.{started, state_of, as_error, end_line, end_column, end_of};
 
 use crate::fault::SpecError;
 use crate::names::NameTable;
@@ -65,8 +67,8 @@ fn read_lexed<'a>(alloc: Global, lexed: &Lexed<'a>, bytes: &'a [u8]) -> Result<S
     ensures stops { (reported : Reported) → result ≡ Err (SpecError.Fault reported) → read bytes.now ≡ Err reported }
 {
     let mut reader = Reader::new(alloc, lexed, bytes);
-    reader.text()?;
-    Ok(reader.into_spec()?)
+    let vars = reader.text_names()?;
+    Ok(reader.into_spec(vars)?)
 }
 
 impl<'s, 'a> Reader<'s, 'a> {
@@ -100,16 +102,20 @@ impl<'s, 'a> Reader<'s, 'a> {
         }
     }
 
-    /// The specification of all that was read. The only error is running out of memory.
-    fn into_spec(self) -> Result<Spec, AllocError>
-        ensures { IfOk result (IsSpecOf (state_of self.entry)) }
+    /// Reads a whole text, and gives the names of its variables as a sequence of their own. The error is the first fault of
+    /// the text, or running out of memory.
+    fn text_names(&mut self) -> Result<Seq<Name>, SpecError>
+        requires { IsFresh self.old }
+        ensures ok { OnOk result (from_start self.old ≡ Ok (state_of self.new)) }
+        ensures err { IfErr result (λ e. e ≢ SpecError.Memory → as_error (from_start self.old) ≡ Err e) }
+        ensures vars { IfOk result (λ vars. vars ≡ self.new.variables) }
     {
-        let vars = self.variables.to_names(self.alloc)?;
-        self.into_spec_over(vars)
+        self.text()?;
+        Ok(self.variables.to_names(self.alloc)?)
     }
 
     /// The specification of all that was read, with these names of the variables. The only error is running out of memory.
-    fn into_spec_over(self, vars: Seq<Name>) -> Result<Spec, AllocError>
+    fn into_spec(self, vars: Seq<Name>) -> Result<Spec, AllocError>
         requires { vars ≡ self.variables }
         ensures { IfOk result (IsSpecOf (state_of self.entry)) }
     {

@@ -5,7 +5,7 @@ use Rattle.spec_text.specs.Spelled.{IsAutomatonOf}
 use Rattle.timbuk_reader.proofs.keeping.Automata.{none_approximated}
 use Rattle.spec_text.specs.lemmas.Specs.{automaton_over, states_whole}
 use Rattle.timbuk_reader.proofs.keeping.KeptRules.{rules_of_kept}
-use Rattle.timbuk_reader.proofs.state.Reader.into_spec_over.Goals as goal
+use Rattle.timbuk_reader.proofs.state.Reader.into_spec.Goals as goal
 
 pub invariant_of-result : goal.invariant_of-result
 invariant_of-result c =
