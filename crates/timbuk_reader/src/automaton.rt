@@ -101,7 +101,6 @@ impl<'s, 'a> Reader<'s, 'a> {
     }
 
     /// A state, and its arity 0, which may be left out.
-    #[tactic(auto, using(crate::proofs::parsing::Parts::then_reads, crate::proofs::parsing::Parts::then_stops))]
     fn declared_state(&mut self, role: Role) -> Result<(), SpecError>
         requires { MayDeclare role self.old }
         ensures shorter { OnOk result (Shorter self.old self.new) }

@@ -1,5 +1,6 @@
 //! The reader of input texts.
-ghost use Rattle.std.specs.Prelude.{◌≡◌, ◌≢◌, ◌⊎◌, ◌<◌, ◌≤◌, ◌-◌, ◌^◌, ◌==◌, not, All, Ok, Err, IfOk, IfErr, OnOk, IsTrue, filter, length};
+ghost use Rattle.std.specs.Prelude.{◌≡◌, ◌≢◌, ◌⊎◌, ◌<◌, ◌≤◌, ◌-◌, ◌^◌, ◌==◌, not, All, filter, length};
+ghost use Rattle.std.specs.Prelude.{Ok, Err, IfOk, IfErr, OnOk, IsTrue};
 ghost use Rattle.std.specs.List.{range_with_len};
 ghost use Rattle.ta_core.specs.TreeAutomaton.{bare};
 ghost use Rattle.ta_core.specs.declared.spec.Spec.{Spec as Spelled};

@@ -59,16 +59,6 @@ impl<'s, 'a> Reader<'s, 'a> {
     }
 
     /// A name with its arity.
-    #[rattlefmt::skip]
-    #[tactic(auto, using(
-        crate::proofs::parsing::Parts::then_advances,
-        crate::proofs::parsing::Parts::then_stops,
-        crate::proofs::parsing::Parts::later_stops,
-        crate::proofs::parsing::Parts::then_reads,
-        crate::proofs::parsing::Tokens::mark_advances,
-        crate::proofs::parsing::Tokens::mark_stops,
-        crate::proofs::parsing::Tokens::naming_calm
-    ))]
     fn op(&mut self) -> Result<(), SpecError>
         requires { IsFresh self.old }
         ensures shorter { OnOk result (Shorter self.old self.new) }
