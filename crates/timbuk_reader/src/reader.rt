@@ -59,7 +59,7 @@ fn read_text(alloc: Global, bytes: &[u8]) -> Result<Spec, SpecError>
     read_lexed(alloc, &lexed, bytes)
 }
 
-/// Reads the tokens of a text in the same way. What stands behind them is told in the text's own bytes.
+/// Reads a text of which these are the tokens, in the same way. The bytes give the place of its end.
 fn read_lexed<'a>(alloc: Global, lexed: &Lexed<'a>, bytes: &'a [u8]) -> Result<Spec, SpecError>
     requires few { length bytes.now < 2 ^ 32 - 1 }
     requires exact { lexed.now ≡ lexing.lexed bytes.now }
@@ -136,8 +136,8 @@ impl<'s, 'a> Reader<'s, 'a> {
     }
 }
 
-/// The automaton of the first states of the one declaration, of this number, and that of all states of the other. The only
-/// error is running out of memory.
+/// The initial automaton, of the first states that are declared for it, of this number, and the second one, of all of its own.
+/// The only error is running out of memory.
 fn automata_of(
     alloc: Global,
     initial: StartedAutomaton,
