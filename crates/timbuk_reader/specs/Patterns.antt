@@ -93,9 +93,9 @@ pub record Misapplies (p : Role) (f n depth : ℕ) (old : Reader) (e : SpecError
   pub by : e ≢ error.Memory → (ps : List Part) (applications : List Application) (shapes : List Shape) → length applications ≡ depth → IsFirstSide p shapes
       → as_error (applied_from p f n ps applications shapes old) ≡ Err e
 
-abbrev pub AppliesAll : Role → ℕ → ℕ → ℕ → Reader → Result (List Shape) SpecError → Reader → Type 0
-AppliesAll p f n depth old (Ok args) new = Applies p f n depth old args new
-AppliesAll p f n depth old (Err e) new = Misapplies p f n depth old e
+abbrev pub AppliesAll : {X : Type 0} → Role → ℕ → ℕ → ℕ → Reader → Result X SpecError → List Shape → Reader → Type 0
+AppliesAll p f n depth old (Ok x) args new = Applies p f n depth old args new
+AppliesAll p f n depth old (Err e) args new = Misapplies p f n depth old e
 
 -- what may stand behind an argument
 abbrev pub behind : Role → Part

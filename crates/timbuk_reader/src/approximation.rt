@@ -102,13 +102,6 @@ impl StartedEntry {
 
 impl<'s, 'a> Reader<'s, 'a> {
     /// An approximation, from its word on. It is refused before the first automaton, and where there is one.
-    #[rattlefmt::skip]
-    #[tactic(auto, using(
-        crate::proofs::parsing::Parts::then_advances,
-        crate::proofs::parsing::Parts::then_stops,
-        crate::proofs::parsing::Parts::later_stops,
-        crate::proofs::parsing::Parts::then_reads
-    ))]
     pub(crate) fn approximation(&mut self) -> Result<(), SpecError>
         ensures shorter { OnOk result (Shorter self.old self.new) }
         ensures reads { Reads grammar.approximation closed self.old result closed self.new }

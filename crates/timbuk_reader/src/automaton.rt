@@ -42,13 +42,6 @@ impl StartedAutomaton {
 
 impl<'s, 'a> Reader<'s, 'a> {
     /// An automaton, from its word on. It is refused where there are two.
-    #[rattlefmt::skip]
-    #[tactic(auto, using(
-        crate::proofs::parsing::Parts::then_reads,
-        crate::proofs::parsing::Parts::then_stops,
-        crate::proofs::parsing::Parts::then_advances,
-        crate::proofs::parsing::Parts::later_stops
-    ))]
     pub(crate) fn automaton(&mut self) -> Result<(), SpecError>
         ensures shorter { OnOk result (Shorter self.old self.new) }
         ensures reads { Reads grammar.automaton closed self.old result closed self.new }
@@ -80,7 +73,6 @@ impl<'s, 'a> Reader<'s, 'a> {
     }
 
     /// The name of a section, which has no effect. It is refused only as a name of more than `MAX_NAME` bytes.
-    #[tactic(auto, using(crate::proofs::parsing::Tokens::no_word_stops, crate::proofs::parsing::Tokens::closed_calm))]
     pub(crate) fn title(&mut self) -> Result<(), SpecError>
         ensures shorter { OnOk result (Shorter self.old self.new) }
         ensures reads { Reads (grammar.name role.Title) closed self.old result closed self.new }
@@ -109,7 +101,6 @@ impl<'s, 'a> Reader<'s, 'a> {
     }
 
     /// A state, and its arity 0, which may be left out.
-    #[tactic(auto, using(crate::proofs::parsing::Parts::then_reads, crate::proofs::parsing::Parts::then_stops))]
     fn declared_state(&mut self, role: Role) -> Result<(), SpecError>
         requires { MayDeclare role self.old }
         ensures shorter { OnOk result (Shorter self.old self.new) }
@@ -122,7 +113,6 @@ impl<'s, 'a> Reader<'s, 'a> {
 
     /// The name of a state, which is added. It is refused where there are `MAX_STATES` states, and where a symbol, a variable or
     /// one of these states has the name.
-    #[tactic(auto, using(crate::proofs::parsing::Tokens::no_word_stops, crate::proofs::parsing::Tokens::closed_calm))]
     fn state_name(&mut self, role: Role) -> Result<(), SpecError>
         requires { MayDeclare role self.old }
         ensures shorter { OnOk result (Shorter self.old self.new) }
@@ -305,15 +295,6 @@ impl<'s, 'a> Reader<'s, 'a> {
     }
 
     /// A state of the automaton with its description.
-    #[rattlefmt::skip]
-    #[tactic(auto, using(
-        crate::proofs::parsing::Parts::then_reads,
-        crate::proofs::parsing::Parts::then_stops,
-        crate::proofs::parsing::Parts::then_advances,
-        crate::proofs::parsing::Parts::later_stops,
-        crate::proofs::parsing::Automaton::described_advances,
-        crate::proofs::parsing::Automaton::stops_closed
-    ))]
     fn described_state(&mut self) -> Result<(), SpecError>
         ensures shorter { OnOk result (Shorter self.old self.new) }
         ensures reads { Reads described closed self.old result closed self.new }
@@ -325,13 +306,6 @@ impl<'s, 'a> Reader<'s, 'a> {
     }
 
     /// The final states.
-    #[rattlefmt::skip]
-    #[tactic(auto, using(
-        crate::proofs::parsing::Parts::then_reads,
-        crate::proofs::parsing::Parts::then_stops,
-        crate::proofs::parsing::Parts::then_advances,
-        crate::proofs::parsing::Parts::later_stops
-    ))]
     fn final_states(&mut self) -> Result<(), SpecError>
         requires { IsInAutomaton self.old }
         ensures shorter { OnOk result (Shorter self.old self.new) }
@@ -396,13 +370,6 @@ impl<'s, 'a> Reader<'s, 'a> {
 
 impl<'s, 'a> Reader<'s, 'a> {
     /// The transitions, those under `Prior` first.
-    #[rattlefmt::skip]
-    #[tactic(auto, using(
-        crate::proofs::parsing::Parts::then_reads,
-        crate::proofs::parsing::Parts::then_stops,
-        crate::proofs::parsing::Parts::then_advances,
-        crate::proofs::parsing::Parts::later_stops
-    ))]
     fn transitions(&mut self) -> Result<(), SpecError>
         requires { IsInAutomaton self.old }
         ensures no_longer { OnOk result (NoLonger self.old self.new) }

@@ -38,14 +38,15 @@ impl<'s, 'a> Reader<'s, 'a> {
             Meaning::Symbol(sym, 0) => self.pattern_constant(role, depth, sym),
             Meaning::Symbol(sym, arity) => {
                 self.advance();
-                let args = self.arguments(role, sym, arity, depth)?;
+                let mut args = Seq::new(self.alloc);
+                self.arguments(role, sym, arity, depth, &mut args)?;
                 Ok(Shape::App(sym, args))
             }
         }
     }
 
-    /// The arguments of a symbol that stands below so many open applications, as many as its arity says. Another number is
-    /// refused.
+    /// Reads into an empty sequence the arguments of a symbol that stands below so many open applications, as many as its
+    /// arity says. Another number is refused.
     #[cycle(pattern)]
     fn arguments(
         &mut self,
@@ -53,24 +54,25 @@ impl<'s, 'a> Reader<'s, 'a> {
         sym: u32,
         arity: u32,
         depth: u32,
-    ) -> Result<Seq<Shape>, SpecError>
+        args: &mut Seq<Shape>,
+    ) -> Result<(), SpecError>
         requires role { IsPatternRole role }
         requires depth { depth < MAX_NESTING }
         requires some { 0 < arity }
+        requires none { args.old ≡ [] }
         ensures shorter { OnOk result (Shorter self.old self.new) }
-        ensures reads { AppliesAll role sym arity depth self.old result self.new }
-        ensures count { IfOk result (λ args. length args ≡ arity) }
-        ensures fits { IfOk result (λ args. AllFit role self.old args self.new) }
+        ensures reads { AppliesAll role sym arity depth self.old result args.new self.new }
+        ensures count { OnOk result (length args.new ≡ arity) }
+        ensures fits { OnOk result (AllFit role self.old args.new self.new) }
     {
         self.first_argument()?;
-        let mut args = Seq::new(self.alloc);
         args.push(self.pattern(role, depth + 1)?)?;
         while args.len() < arity as usize {
             self.next_argument()?;
             args.push(self.pattern(role, depth + 1)?)?;
         }
         self.last_argument()?;
-        Ok(args)
+        Ok(())
     }
 
     /// What the name stands for that comes next in a pattern. It is refused where it may not stand there, and so is

@@ -1,9 +1,11 @@
 //! The reader of input texts.
-ghost use Rattle.std.specs.Prelude.{◌≡◌, ◌⊎◌, ◌<◌, ◌≤◌, ◌-◌, ◌^◌, ◌==◌, not, All, Ok, Err, IfOk, IsTrue, filter, length};
+ghost use Rattle.std.specs.Prelude.{◌≡◌, ◌≢◌, ◌⊎◌, ◌<◌, ◌≤◌, ◌-◌, ◌^◌, ◌==◌, not, All, filter, length};
+ghost use Rattle.std.specs.Prelude.{Ok, Err, IfOk, IfErr, OnOk, IsTrue};
 ghost use Rattle.std.specs.List.{range_with_len};
 ghost use Rattle.ta_core.specs.TreeAutomaton.{bare};
 ghost use Rattle.ta_core.specs.declared.spec.Spec.{Spec as Spelled};
 ghost use Rattle.timbuk_lex.specs.Laws.{HasWord};
+ghost use Rattle.timbuk_lex.specs.Lexing as lexing;
 ghost use Rattle.spec_text.specs.declared.fault.SpecFault.{SpecFault as Reported};
 ghost use Rattle.spec_text.specs.Declarations.{nothing};
 ghost use Rattle.spec_text.specs.Reading.{read};
@@ -12,12 +14,14 @@ ghost use Rattle.spec_text.specs.Spelled.{IsAutomatonOf, IsSpecOf};
 ghost use Rattle.spec_text.specs.SpecText.{SpecText};
 ghost use Rattle.spec_text.specs.Faults.{SpecFaultAt};
 ghost use Rattle.spec_text.specs.Laws.{IsRead};
-ghost use Rattle.timbuk_reader.specs.View.{started, state_of, end_line, end_column, end_of};
+ghost use Rattle.timbuk_reader.specs.Reads.{IsFresh};
+ghost use Rattle.timbuk_reader.specs.SectionReads.{from_start};
+ghost use Rattle.timbuk_reader.specs.View.{started, state_of, as_error, end_line, end_column, end_of};
 
 use crate::fault::SpecError;
 use crate::names::NameTable;
 use crate::state::{Reader, StartedAutomaton};
-use ranked_terms::{Seq, Signature};
+use ranked_terms::{Name, Seq, Signature};
 use spec_text::{faults_are_first, no_text_has_two_specs, texts_are_read};
 use std::alloc::{AllocError, Global};
 use ta_core::{Automaton, MAX_STATES, Spec};
@@ -52,9 +56,20 @@ fn read_text(alloc: Global, bytes: &[u8]) -> Result<Spec, SpecError>
     ensures stops { (reported : Reported) → result ≡ Err (SpecError.Fault reported) → read bytes.now ≡ Err reported }
 {
     let lexed = lex_of(alloc, bytes)?;
-    let mut reader = Reader::new(alloc, &lexed, bytes);
-    reader.text()?;
-    Ok(reader.into_spec()?)
+    read_lexed(alloc, &lexed, bytes)
+}
+
+/// Reads a text of which these are the tokens, in the same way. The bytes give the place of its end.
+fn read_lexed<'a>(alloc: Global, lexed: &Lexed<'a>, bytes: &'a [u8]) -> Result<Spec, SpecError>
+    requires few { length bytes.now < 2 ^ 32 - 1 }
+    requires exact { lexed.now ≡ lexing.lexed bytes.now }
+    requires words { All HasWord lexed.now.tokens }
+    ensures read { IfOk result (IsRead bytes.now) }
+    ensures stops { (reported : Reported) → result ≡ Err (SpecError.Fault reported) → read bytes.now ≡ Err reported }
+{
+    let mut reader = Reader::new(alloc, lexed, bytes);
+    let vars = reader.text_names()?;
+    Ok(reader.into_spec(vars)?)
 }
 
 impl<'s, 'a> Reader<'s, 'a> {
@@ -88,25 +103,60 @@ impl<'s, 'a> Reader<'s, 'a> {
         }
     }
 
-    /// The specification of all that was read. The only error is running out of memory.
-    fn into_spec(self) -> Result<Spec, AllocError>
+    /// Reads a whole text, and gives the names of its variables as a sequence of their own. The error is the first fault of
+    /// the text, or running out of memory.
+    fn text_names(&mut self) -> Result<Seq<Name>, SpecError>
+        requires { IsFresh self.old }
+        ensures ok { OnOk result (from_start self.old ≡ Ok (state_of self.new)) }
+        ensures err { IfErr result (λ e. e ≢ SpecError.Memory → as_error (from_start self.old) ≡ Err e) }
+        ensures vars { IfOk result (λ vars. vars ≡ self.new.variables) }
+    {
+        self.text()?;
+        Ok(self.variables.to_names(self.alloc)?)
+    }
+
+    /// The specification of all that was read, with these names of the variables. The only error is running out of memory.
+    fn into_spec(self, vars: Seq<Name>) -> Result<Spec, AllocError>
+        requires { vars ≡ self.variables }
         ensures { IfOk result (IsSpecOf (state_of self.entry)) }
     {
-        let alloc = self.alloc;
         let own_states = self.initial.states.len() - self.extra;
-        let forbidden_states = self.second.states.len();
+        let (initial, forbidden) = automata_of(self.alloc, self.initial, own_states, self.second)?;
         Ok(Spec {
-            vars: self.variables.to_names(alloc)?,
+            vars,
             signature: self.signature,
             rules: self.rules,
             equations: self.equations,
             entries: self.entries,
             extra: self.extra,
             approximated: self.approximations > 0,
-            initial: self.initial.into_automaton(alloc, own_states)?,
-            forbidden: self.second.into_automaton(alloc, forbidden_states)?,
+            initial,
+            forbidden,
         })
     }
+}
+
+/// The initial automaton, of the first states that are declared for it, of this number, and the second one, of all of its own.
+/// The only error is running out of memory.
+fn automata_of(
+    alloc: Global,
+    initial: StartedAutomaton,
+    own_states: u32,
+    second: StartedAutomaton,
+) -> Result<(Automaton, Automaton), AllocError>
+    requires few { own_states ≤ MAX_STATES }
+    requires initial_finals { IsTrue (states_are_below own_states initial.finals) }
+    requires initial_trans { IsTrue (trans_are_below own_states initial.trans) }
+    requires initial_eps { IsTrue (eps_are_below own_states initial.eps) }
+    requires second_finals { IsTrue (states_are_below (length second.states) second.finals) }
+    requires second_trans { IsTrue (trans_are_below (length second.states) second.trans) }
+    requires second_eps { IsTrue (eps_are_below (length second.states) second.eps) }
+    ensures initial { IfOk result (λ both. IsAutomatonOf own_states (started initial) both.0) }
+    ensures second { IfOk result (λ both. IsAutomatonOf (length second.states) (started second) both.1) }
+{
+    let first = initial.into_automaton(alloc, own_states)?;
+    let states = second.states.len();
+    Ok((first, second.into_automaton(alloc, states)?))
 }
 
 impl StartedAutomaton {
@@ -120,12 +170,24 @@ impl StartedAutomaton {
         requires eps { IsTrue (eps_are_below count self.eps) }
         ensures { IfOk result (IsAutomatonOf count (started self)) }
     {
-        let moves = moves_of(alloc, self.eps.as_slice())?;
         let mut automaton = automaton_of_states(alloc, count)?;
+        self.add_to(alloc, &mut automaton)?;
+        Ok(automaton)
+    }
+
+    /// Adds the final states and the transitions that are declared to an automaton of states alone. What stands twice counts
+    /// once, and an epsilon transition from a state to itself does not. The only error is running out of memory.
+    fn add_to(self, alloc: Global, automaton: &mut Automaton) -> Result<(), AllocError>
+        requires bare { automaton.old ≡ bare automaton.old.next (range_with_len 0 automaton.old.next) }
+        requires finals { IsTrue (states_are_below automaton.old.next self.finals) }
+        requires trans { IsTrue (trans_are_below automaton.old.next self.trans) }
+        requires eps { IsTrue (eps_are_below automaton.old.next self.eps) }
+        ensures { OnOk result (IsAutomatonOf automaton.old.next (started self) automaton.new) }
+    {
         automaton.set_all_final(self.finals)?;
         automaton.add_all_trans(self.trans)?;
-        automaton.add_all_eps(moves)?;
-        Ok(automaton)
+        let moves = moves_of(alloc, self.eps.as_slice())?;
+        automaton.add_all_eps(moves)
     }
 }
 

@@ -20,7 +20,6 @@ use trs_rules::{Equation, Rule};
 
 impl<'s, 'a> Reader<'s, 'a> {
     /// The rules, from the word `TRS` on. They are refused where there are some.
-    #[tactic(auto, using(crate::proofs::parsing::Parts::then_stops, crate::proofs::parsing::Parts::later_stops))]
     pub(crate) fn system(&mut self) -> Result<(), SpecError>
         ensures shorter { OnOk result (Shorter self.old self.new) }
         ensures reads { Reads grammar.system closed self.old result closed self.new }
@@ -47,7 +46,6 @@ impl<'s, 'a> Reader<'s, 'a> {
     }
 
     /// The equations, from the word `Equations` on. They are refused where there are some.
-    #[tactic(auto, using(crate::proofs::parsing::Parts::then_stops, crate::proofs::parsing::Parts::later_stops))]
     pub(crate) fn equations(&mut self) -> Result<(), SpecError>
         ensures shorter { OnOk result (Shorter self.old self.new) }
         ensures reads { Reads grammar.equations closed self.old result closed self.new }

@@ -37,13 +37,6 @@ impl<'s, 'a> Reader<'s, 'a> {
     }
 
     /// All that a text declares: symbols, variables and sections. The error is the first fault in them, or running out of memory.
-    #[rattlefmt::skip]
-    #[tactic(auto, using(
-        crate::proofs::parsing::Parts::then_advances,
-        crate::proofs::parsing::Parts::then_stops,
-        crate::proofs::parsing::Parts::later_stops,
-        crate::proofs::parsing::Parts::then_reads
-    ))]
     fn declarations(&mut self) -> Result<(), SpecError>
         requires { IsFresh self.old }
         ensures { Reads grammar.file closed self.old result closed self.new }

@@ -59,16 +59,6 @@ impl<'s, 'a> Reader<'s, 'a> {
     }
 
     /// A name with its arity.
-    #[rattlefmt::skip]
-    #[tactic(auto, using(
-        crate::proofs::parsing::Parts::then_advances,
-        crate::proofs::parsing::Parts::then_stops,
-        crate::proofs::parsing::Parts::later_stops,
-        crate::proofs::parsing::Parts::then_reads,
-        crate::proofs::parsing::Tokens::mark_advances,
-        crate::proofs::parsing::Tokens::mark_stops,
-        crate::proofs::parsing::Tokens::naming_calm
-    ))]
     fn op(&mut self) -> Result<(), SpecError>
         requires { IsFresh self.old }
         ensures shorter { OnOk result (Shorter self.old self.new) }
@@ -81,7 +71,6 @@ impl<'s, 'a> Reader<'s, 'a> {
     }
 
     /// The name of a symbol. It is refused where there are `MAX_SYMBOLS` symbols, and where one of them has the name.
-    #[tactic(auto, using(crate::proofs::parsing::Tokens::no_word_stops, crate::proofs::parsing::Tokens::closed_calm))]
     fn symbol_name(&mut self) -> Result<&'a str, SpecError>
         requires { IsFresh self.old }
         ensures shorter { OnOk result (Shorter self.old self.new) }
@@ -102,7 +91,6 @@ impl<'s, 'a> Reader<'s, 'a> {
     }
 
     /// The arity of the symbol of this name, which is added. It is refused above `MAX_ARITY`.
-    #[tactic(auto, using(crate::proofs::parsing::Tokens::no_word_stops, crate::proofs::parsing::Tokens::naming_calm))]
     fn arity(&mut self, name: &str) -> Result<(), SpecError>
         requires fresh { IsFresh self.old }
         requires new { IsNewSymbol self.old.signature name.now }
@@ -171,7 +159,6 @@ impl<'s, 'a> Reader<'s, 'a> {
 
     /// The name of a variable, which is added. It is refused where there are `MAX_DECLARED` variables, and where a symbol or a
     /// variable has the name.
-    #[tactic(auto, using(crate::proofs::parsing::Tokens::no_word_stops, crate::proofs::parsing::Tokens::closed_calm))]
     fn variable_name(&mut self) -> Result<(), SpecError>
         ensures shorter { OnOk result (Shorter self.old self.new) }
         ensures reads { Reads (grammar.name role.Variable) closed self.old result closed self.new }

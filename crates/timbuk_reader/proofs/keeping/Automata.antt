@@ -1,5 +1,5 @@
 -- The automata of a specification, of the states and transitions that were read.
-use Rattle.std.proofs.Common.{◌≡◌, ◌≢◌, ℕ, ◌+◌, ◌<◌, ◌==◌, Bool, true, false, not, ◌&&◌, nat_lt, List, [], ◌∷◌, ◌++◌, All, Contains, sym, ap, subst, ◌∙◌, refl, inr, ⊎_elim, arith}
+use Rattle.std.proofs.Common.{◌≡◌, ◌≢◌, ℕ, ◌+◌, ◌<◌, ◌==◌, Bool, true, false, not, ◌&&◌, nat_lt, List, [], ◌∷◌, ◌++◌, All, Contains, sym, ap, subst, ◌∙◌, refl, inr, ⊎_elim, Result, Ok, Err, OnOk, arith}
 use Rattle.std.specs.declared.cmp.Ordering.{Ordering}
 use Rattle.std.specs.List.{range_with_len, filter}
 use Rattle.std.specs.List.Sorted.{IsStrictlySortedBy}
@@ -101,6 +101,13 @@ module _ (count : ℕ) (a : Started) (A B C D : TreeAutomaton) (moves : List (�
     trans_are = subst (λ l. IsAscendingSet trans_cmp l a.trans) (sym (ap (λ (E : TreeAutomaton). E.trans) h)) (set_of trans_cmp B.trans a.trans C.trans (ap (λ (E : TreeAutomaton). E.trans) f ∙ ap (λ (E : TreeAutomaton). E.trans) e) trans trans_ascend);
     eps_are = subst (λ l. IsAscendingSet pair_cmp D.eps l) m (set_of pair_cmp C.eps moves D.eps (ap (λ (E : TreeAutomaton). E.eps) g ∙ ap (λ (E : TreeAutomaton). E.eps) f ∙ ap (λ (E : TreeAutomaton). E.eps) e) eps eps_ascend);
   }
+
+-- the same where there may be no memory for the epsilon transitions
+pub is_automaton_if : {X E : Type 0} (count : ℕ) (a : Started) (A B C D : TreeAutomaton) (moves : List (ℕ × ℕ)) → A ≡ bare count (range_with_len 0 count) → B ≡ record A { finals = B.finals } → C ≡ record B { trans = C.trans }
+    → (result : Result X E) → OnOk result (D ≡ record C { eps = D.eps }) → moves ≡ filter (λ e. not (e.0 == e.1)) a.eps → IsUnion A.finals a.finals B.finals → IsStrictlySortedBy nat_cmp B.finals → IsUnion B.trans a.trans C.trans → IsStrictlySortedBy trans_cmp C.trans
+    → OnOk result (IsUnion C.eps moves D.eps) → OnOk result (IsStrictlySortedBy pair_cmp D.eps) → OnOk result (IsAutomatonOf count a D)
+is_automaton_if count a A B C D moves e f g (Ok x) h m finals finals_ascend trans trans_ascend eps eps_ascend = is_automaton_of count a A B C D moves e f g h m finals finals_ascend trans trans_ascend eps eps_ascend
+is_automaton_if count a A B C D moves e f g (Err x) h m finals finals_ascend trans trans_ascend eps eps_ascend = tt
 
 -- no approximation was read
 pub none_approximated : (count : ℕ) → nat_lt 0 count ≡ false → count ≡ 0

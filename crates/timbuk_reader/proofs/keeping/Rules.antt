@@ -251,6 +251,11 @@ rules_read before after new left right e sides = ap (map rule_shapes) e ∙ map-
 pub equations_read : (before after : List RewriteEquation) (new : RewriteEquation) (left right : Pattern) → after ≡ before ++ new ∷ [] → (new.left ≡ left) × (new.right ≡ right) → map equation_shapes after ≡ map equation_shapes before ++ (shape_of left, shape_of right) ∷ []
 equations_read before after new left right e sides = ap (map equation_shapes) e ∙ map-append equation_shapes before (new ∷ []) ∙ (λ i. map equation_shapes before ++ (shape_of (sides.0 i), shape_of (sides.1 i)) ∷ [])
 
+-- what holds of each holds of one more, where there may be no memory for it
+pub all_push : {X E T : Type 0} (P : T → Type 0) (result : Result X E) (before after : List T) (new : T) → OnOk result (after ≡ before ++ new ∷ []) → OnErr result (after ≡ before) → All P before → P new → All P after
+all_push P (Ok x) before after new ok err h is = subst (All P) (sym ok) (All-append P before (new ∷ []) h (All-cons P new [] is (All-nil P)))
+all_push P (Err e) before after new ok err h is = subst (All P) (sym err) h
+
 -- the rules that are kept, and one more
 kept_on : (before after : List RewriteRule) (new : RewriteRule) → All IsKeptRule before → after ≡ before ++ new ∷ [] → IsRule new → All IsKeptRule after
 kept_on before after new h e is =
@@ -286,3 +291,11 @@ module _ (start m v u : Reader) (first : SameBut start m) (t : Terminal) (k : To
       let over = side_over left right l r in
       ap (rules_are_over u.signature) ok ∙ rules_on u.signature u.rules new u.rules_over (ap (pattern_is_over u.signature) sides.0 ∙ over.0) (ap (pattern_is_over u.signature) sides.1 ∙ over.1)
   rules_push (Err e) left right after new l r sides ok err = ap (rules_are_over u.signature) err ∙ u.rules_over
+
+  -- the same of equations
+  pub equations_push : {X E : Type 0} (result : Result X E) (left right : Pattern) (after : List RewriteEquation) (new : RewriteEquation) → pattern_is_over start.signature left ≡ true → pattern_is_over v.signature right ≡ true → (new.left ≡ left) × (new.right ≡ right)
+      → OnOk result (after ≡ u.equations ++ new ∷ []) → OnErr result (after ≡ u.equations) → equations_are_over u.signature after ≡ true
+  equations_push (Ok x) left right after new l r sides ok err =
+      let over = side_over left right l r in
+      ap (equations_are_over u.signature) ok ∙ equations_on u.signature u.equations new u.equations_over (ap (pattern_is_over u.signature) sides.0 ∙ over.0) (ap (pattern_is_over u.signature) sides.1 ∙ over.1)
+  equations_push (Err e) left right after new l r sides ok err = ap (equations_are_over u.signature) err ∙ u.equations_over

@@ -35,7 +35,7 @@ arguments-loop-role-init t c =
     let less = took_less terminal.OpenParen r m k in
     let more = c.in_ok-pattern.ensures.shorter in
     let shape = c.in_ok-pattern.field-0 in
-    let items = c.in_ok-push.ensures.ok ∙ ap (λ z. z ++ (shape ∷ [])) c.new-args.ensures in
+    let items = c.in_ok-push.ensures.ok ∙ ap (λ z. z ++ (shape ∷ [])) c.requires.none in
     record {
       few = let e = ap length items in omega arith;
       some = let e = ap length items in omega arith;
@@ -92,29 +92,29 @@ arguments-returns-clause-reads t c =
 
 -- ---- a symbol with arguments
 
-pub pattern-returns-in_err-args-in-Symbol-clause-reads : goal.pattern-returns-in_err-args-in-Symbol-clause-reads
-pattern-returns-in_err-args-in-Symbol-clause-reads t c =
+pub pattern-returns-in_err-arguments-in-Symbol-clause-reads : goal.pattern-returns-in_err-arguments-in-Symbol-clause-reads
+pattern-returns-in_err-arguments-in-Symbol-clause-reads t c =
     let r = c.args.self.now in
     let u = c.advance.new.self in
-    let e = c.in_err-args-in-Symbol.field-0.0 in
+    let e = c.in_err-arguments-in-Symbol.field-0.0 in
     let head : HasHead c.args.role c.args.depth r (a_symbol c.in-Symbol.sym c.in-Symbol.arity) = subst (λ z. HasHead c.args.role c.args.depth r (meant_by z)) c.in-Symbol.is c.in_ok-pattern_head.ensures.ok in
     let breaks : Breaks c.args.role c.args.depth r e =
     function_breaks c.args.role c.requires.role r u c.args.depth head.text head.stands c.advance.result.now c.advance.ensures.token (same_now r u c.advance.ensures.state c.advance.ensures.end)
-    c.advance.ensures.bound c.in-Symbol.sym c.in-Symbol.arity e (omega arith) head.means head.fits c.in_err-args-in-Symbol.ensures.reads in
+    c.advance.ensures.bound c.in-Symbol.sym c.in-Symbol.arity e (omega arith) head.means head.fits c.in_err-arguments-in-Symbol.ensures.reads in
     grind (arith, common_steps)
 
-pub pattern-returns-in_ok-args-in-Symbol-clause-reads : goal.pattern-returns-in_ok-args-in-Symbol-clause-reads
-pattern-returns-in_ok-args-in-Symbol-clause-reads t c =
+pub pattern-returns-in_ok-arguments-in-Symbol-clause-reads : goal.pattern-returns-in_ok-arguments-in-Symbol-clause-reads
+pattern-returns-in_ok-arguments-in-Symbol-clause-reads t c =
     let r = c.args.self.now in
     let u = c.advance.new.self in
     let head : HasHead c.args.role c.args.depth r (a_symbol c.in-Symbol.sym c.in-Symbol.arity) = subst (λ z. HasHead c.args.role c.args.depth r (meant_by z)) c.in-Symbol.is c.in_ok-pattern_head.ensures.ok in
     function_builds c.args.role c.requires.role r u c.args.depth head.text head.stands c.advance.result.now c.advance.ensures.token (same_now r u c.advance.ensures.state c.advance.ensures.end)
-    c.advance.ensures.bound c.in-Symbol.sym c.in-Symbol.arity c.in_ok-args-in-Symbol.args c.arguments.new.self (omega arith) head.means head.fits c.in_ok-args-in-Symbol.ensures.reads
+    c.advance.ensures.bound c.in-Symbol.sym c.in-Symbol.arity c.arguments.new.args c.arguments.new.self (omega arith) head.means head.fits c.in_ok-arguments-in-Symbol.ensures.reads
 
-pub pattern-returns-in_ok-args-in-Symbol-clause-fits : goal.pattern-returns-in_ok-args-in-Symbol-clause-fits
-pattern-returns-in_ok-args-in-Symbol-clause-fits t c =
+pub pattern-returns-in_ok-arguments-in-Symbol-clause-fits : goal.pattern-returns-in_ok-arguments-in-Symbol-clause-fits
+pattern-returns-in_ok-arguments-in-Symbol-clause-fits t c =
     let r = c.args.self.now in
     let u = c.advance.new.self in
     let head : HasHead c.args.role c.args.depth r (a_symbol c.in-Symbol.sym c.in-Symbol.arity) = subst (λ z. HasHead c.args.role c.args.depth r (meant_by z)) c.in-Symbol.is c.in_ok-pattern_head.ensures.ok in
-    fits_application c.args.role r u c.arguments.new.self c.in-Symbol.sym c.in-Symbol.arity c.in_ok-args-in-Symbol.args
-    (symbol_arity (state_of r) c.args.role head.text c.in-Symbol.sym c.in-Symbol.arity head.means) c.in_ok-args-in-Symbol.ensures.count c.advance.ensures.state c.advance.ensures.bound c.advance.ensures.end c.in_ok-args-in-Symbol.ensures.fits
+    fits_application c.args.role r u c.arguments.new.self c.in-Symbol.sym c.in-Symbol.arity c.arguments.new.args
+    (symbol_arity (state_of r) c.args.role head.text c.in-Symbol.sym c.in-Symbol.arity head.means) c.in_ok-arguments-in-Symbol.ensures.count c.advance.ensures.state c.advance.ensures.bound c.advance.ensures.end c.in_ok-arguments-in-Symbol.ensures.fits

@@ -1,13 +1,22 @@
+use Rattle.timbuk_grammar.specs.Grammar.{one}
+use Rattle.timbuk_reader.specs.Reads.{Stops}
+use Rattle.std.proofs.lemmas.Grind.{common_steps}
 use Rattle.std.proofs.Common.{◌≡◌, ◌≤◌, ◌<◌, min, arith, refl, ap, ◌∙◌}
 use Rattle.timbuk_grammar.specs.declared.terminal.Terminal.TheVariants as terminal
 use Rattle.spec_text.specs.declared.fault.SpecKind.TheVariants as kind
 use Rattle.spec_text.specs.declared.fault.LimitName.TheVariants as limit
 use Rattle.spec_text.specs.Declarations.{adds, value_of}
 use Rattle.timbuk_reader.specs.View.{closed, naming, declared}
-use Rattle.timbuk_reader.proofs.parsing.Tokens.{word_advances, word_stops, naming_calm}
+use Rattle.timbuk_reader.proofs.parsing.Tokens.{word_advances, word_stops, naming_calm, no_word_stops}
 use Rattle.timbuk_reader.proofs.parsing.Names.{large_number, small_number}
 use Rattle.timbuk_reader.proofs.keeping.Fresh.{fresh_rules, fresh_equations, fresh_entries, fresh_initial, fresh_second}
 use Rattle.timbuk_reader.proofs.state.Reader.arity.Goals as goal
+
+pub returns-in_err-word-clause-reads : goal.returns-in_err-word-clause-reads
+returns-in_err-word-clause-reads c =
+    let e = c.in_err-word.field-0.0 in
+    let stops : Stops (one terminal.Number) (naming c.args.name.now) c.args.self.now e = no_word_stops terminal.Number (naming c.args.name.now) c.args.self.now e tt (naming_calm c.args.name.now) c.in_err-word.ensures.err in
+    grind (arith, common_steps)
 
 pub returns-then-arity-gt-MAX_ARITY-clause-reads : goal.returns-then-arity-gt-MAX_ARITY-clause-reads
 returns-then-arity-gt-MAX_ARITY-clause-reads c =

@@ -4,7 +4,9 @@ use Rattle.timbuk_grammar.specs.Grammar.{equation}
 use Rattle.spec_text.specs.Declarations.{Declared}
 use Rattle.timbuk_reader.specs.View.{closed, state_of}
 use Rattle.timbuk_reader.specs.Reads.{Stops}
-use Rattle.timbuk_reader.proofs.keeping.Rules.{few_equated, equations_read, equation_left, equation_mark, equation_right, equation_whole}
+use Rattle.trs_rules.specs.Rules.{IsEquation}
+use Rattle.timbuk_grammar.specs.declared.terminal.Terminal.TheVariants as terminal
+use Rattle.timbuk_reader.proofs.keeping.Rules.{all_push, equations_push, few_equated, equations_read, equation_left, equation_mark, equation_right, equation_whole}
 use Rattle.timbuk_reader.proofs.state.Reader.equation.Goals as goal
 
 pub returns-in_err-left-clause-reads : goal.returns-in_err-left-clause-reads
@@ -32,6 +34,17 @@ unreachable-requires c =
     let few = few_equated c.in_ok-left.left c.in_ok-right.right c.unbind.new.self c.side.new.self c.take.new.self u c.unbind.ensures.bound c.in_ok-left.ensures.reads c.in_ok-take.ensures.takes.bound c.in_ok-right.ensures.reads u.few_bound in
     let many = c.in-Err.ensures.refused.0 refl in
     omega arith
+
+pub invariant_of-self-clause-equations_over : goal.invariant_of-self-clause-equations_over
+invariant_of-self-clause-equations_over c =
+    let left = c.in_ok-left.ensures.reads in
+    let right = c.in_ok-right.ensures.reads in
+    equations_push c.unbind.new.self c.side.new.self c.take.new.self c.side-2.new.self left.same terminal.Equals c.in_ok-take.ensures.takes right.same c.push.result c.in_ok-left.left c.in_ok-right.right c.push.new.self c.in-Ok.equation left.over right.over c.in-Ok.ensures.sides c.push.ensures.ok c.push.ensures.err
+
+pub invariant_of-self-clause-are_equations : goal.invariant_of-self-clause-are_equations
+invariant_of-self-clause-are_equations c =
+    let u = c.side-2.new.self in
+    all_push IsEquation c.push.result u.equations c.push.new.self c.in-Ok.equation c.push.ensures.ok c.push.ensures.err u.are_equations c.in-Ok.ensures.equation
 
 pub returns-clause-reads : goal.returns-clause-reads
 returns-clause-reads c =

@@ -10,17 +10,18 @@ use Rattle.timbuk_reader.proofs.state.Reader.into_spec.Goals as goal
 pub invariant_of-result : goal.invariant_of-result
 invariant_of-result c =
     let r = c.args.self in
-    let initial = c.in_ok-into_automaton.ensures in
-    let forbidden = c.in_ok-into_automaton-2.ensures in
-    let whole : c.in_ok-into_automaton.field-0.next + r.extra ≡ length r.initial.states = omega (arith, initial.next_is, c.len.ensures.value, r.own_states) in
+    let both = c.in_ok-initial.ensures in
+    let first = c.in_ok-initial.initial in
+    let second = c.in_ok-initial.forbidden in
+    let whole : first.next + r.extra ≡ length r.initial.states = omega (arith, both.initial.next_is, c.len.ensures.value, r.own_states) in
     record {
       rules_over = r.rules_over;
       equations_over = r.equations_over;
       entries_over = r.entries_over;
-      initial_over = automaton_over r.signature _ (started r.initial) c.in_ok-into_automaton.field-0 initial r.initial_over;
-      forbidden_over = automaton_over r.signature _ (started r.second) c.in_ok-into_automaton-2.field-0 forbidden r.second_over;
-      initial_states = states_whole _ (started r.initial) c.in_ok-into_automaton.field-0 initial;
-      forbidden_states = states_whole _ (started r.second) c.in_ok-into_automaton-2.field-0 forbidden;
+      initial_over = automaton_over r.signature _ (started r.initial) first both.initial r.initial_over;
+      forbidden_over = automaton_over r.signature _ (started r.second) second both.second r.second_over;
+      initial_states = states_whole _ (started r.initial) first both.initial;
+      forbidden_states = states_whole _ (started r.second) second both.second;
       few_states = omega (arith, whole, c.len.ensures.few);
       entries_below = ap (λ bound. entries_are_below bound r.entries) whole ∙ r.entries_below;
       entries_small = r.entries_small;
@@ -33,7 +34,7 @@ returns c =
     let r = c.args.self in
     record {
       signature = refl;
-      vars = c.in_ok-to_names.ensures;
+      vars = c.requires;
       rules = refl;
       are_rules = rules_of_kept r.rules r.are_rules;
       equations = refl;
@@ -41,6 +42,6 @@ returns c =
       entries = refl;
       extra = refl;
       approximated = refl;
-      initial = subst (λ n. IsAutomatonOf (n - r.extra) (started r.initial) c.in_ok-into_automaton.field-0) c.len.ensures.value c.in_ok-into_automaton.ensures;
-      forbidden = subst (λ n. IsAutomatonOf n (started r.second) c.in_ok-into_automaton-2.field-0) c.len-forbidden_states.ensures.value c.in_ok-into_automaton-2.ensures;
+      initial = subst (λ n. IsAutomatonOf (n - r.extra) (started r.initial) c.in_ok-initial.initial) c.len.ensures.value c.in_ok-initial.ensures.initial;
+      forbidden = c.in_ok-initial.ensures.second;
     }

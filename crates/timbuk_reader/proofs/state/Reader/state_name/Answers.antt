@@ -1,13 +1,22 @@
+use Rattle.timbuk_grammar.specs.Grammar.{name}
+use Rattle.timbuk_reader.specs.Reads.{Stops}
+use Rattle.std.proofs.lemmas.Grind.{common_steps}
 use Rattle.std.proofs.Common.{◌≤◌, ◌<◌, length, arith, sym, ap, ◌∙◌}
 use Rattle.timbuk_grammar.specs.declared.terminal.Terminal.TheVariants as terminal
 use Rattle.spec_text.specs.declared.fault.SpecKind.TheVariants as kind
 use Rattle.spec_text.specs.declared.fault.LimitName.TheVariants as limit
 use Rattle.timbuk_reader.specs.View.{closed, state_of}
 use Rattle.timbuk_reader.specs.AutomatonReads.{table_of}
-use Rattle.timbuk_reader.proofs.parsing.Tokens.{word_advances, word_stops, closed_calm}
+use Rattle.timbuk_reader.proofs.parsing.Tokens.{word_advances, word_stops, closed_calm, no_word_stops}
 use Rattle.timbuk_reader.proofs.parsing.Names.{declared_over, declared_double, declared_new}
 use Rattle.timbuk_reader.proofs.parsing.Automaton.{may_declare, full_table, roomy_table, new_in_table}
 use Rattle.timbuk_reader.proofs.state.Reader.state_name.Goals as goal
+
+pub returns-in_err-name-clause-reads : goal.returns-in_err-name-clause-reads
+returns-in_err-name-clause-reads c =
+    let e = c.in_err-name.field-0.0 in
+    let stops : Stops (name c.args.role) closed c.args.self.now e = no_word_stops (terminal.Named c.args.role) closed c.args.self.now e tt closed_calm c.in_err-name.ensures.err in
+    grind (arith, common_steps)
 
 pub returns-then-len-ge-MAX_STATES-clause-reads : goal.returns-then-len-ge-MAX_STATES-clause-reads
 returns-then-len-ge-MAX_STATES-clause-reads c =

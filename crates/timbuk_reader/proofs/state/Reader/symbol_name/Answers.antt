@@ -1,3 +1,6 @@
+use Rattle.timbuk_grammar.specs.Grammar.{name}
+use Rattle.timbuk_reader.specs.Reads.{Stops}
+use Rattle.std.proofs.lemmas.Grind.{common_steps}
 use Rattle.std.proofs.Common.{◌≡◌, ◌≤◌, ◌<◌, length, arith, refl, sym, ap, ◌∙◌}
 use Rattle.std.specs.Prelude.{is_some}
 use Rattle.ranked_terms.specs.Names.{names_of}
@@ -8,9 +11,15 @@ use Rattle.spec_text.specs.declared.fault.LimitName.TheVariants as limit
 use Rattle.spec_text.specs.Declarations.{adds}
 use Rattle.spec_text.specs.Rows.{is_in}
 use Rattle.timbuk_reader.specs.View.{closed, naming, state_of}
-use Rattle.timbuk_reader.proofs.parsing.Tokens.{word_advances, word_stops, closed_calm, declared_same}
+use Rattle.timbuk_reader.proofs.parsing.Tokens.{word_advances, word_stops, closed_calm, declared_same, no_word_stops}
 use Rattle.timbuk_reader.proofs.parsing.Names.{declared_over, declared_double, declared_new, reached, below, is_in-position}
 use Rattle.timbuk_reader.proofs.state.Reader.symbol_name.Goals as goal
+
+pub returns-in_err-name-clause-err : goal.returns-in_err-name-clause-err
+returns-in_err-name-clause-err c =
+    let e = c.in_err-name.field-0.0 in
+    let stops : Stops (name role.Symbol) closed c.args.self.now e = no_word_stops (terminal.Named role.Symbol) closed c.args.self.now e tt closed_calm c.in_err-name.ensures.err in
+    grind (arith, common_steps)
 
 pub returns-then-len-ge-MAX_SYMBOLS-clause-err : goal.returns-then-len-ge-MAX_SYMBOLS-clause-err
 returns-then-len-ge-MAX_SYMBOLS-clause-err c =

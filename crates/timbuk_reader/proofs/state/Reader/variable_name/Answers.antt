@@ -1,3 +1,6 @@
+use Rattle.timbuk_grammar.specs.Grammar.{name}
+use Rattle.timbuk_reader.specs.Reads.{Stops}
+use Rattle.std.proofs.lemmas.Grind.{common_steps}
 use Rattle.std.proofs.Common.{◌≡◌, ◌≤◌, ◌<◌, ◌++◌, true, false, length, arith, refl, sym, ◌∙◌}
 use Rattle.ranked_terms.specs.Names.{names_of}
 use Rattle.timbuk_grammar.specs.declared.terminal.Role.TheVariants as role
@@ -7,9 +10,15 @@ use Rattle.spec_text.specs.declared.fault.LimitName.TheVariants as limit
 use Rattle.spec_text.specs.Declarations.{adds}
 use Rattle.spec_text.specs.Rows.{is_in}
 use Rattle.timbuk_reader.specs.View.{closed, state_of}
-use Rattle.timbuk_reader.proofs.parsing.Tokens.{word_advances, word_stops, closed_calm}
+use Rattle.timbuk_reader.proofs.parsing.Tokens.{word_advances, word_stops, closed_calm, no_word_stops}
 use Rattle.timbuk_reader.proofs.parsing.Names.{declared_over, declared_double, declared_new, reached, below, no_position, is_in-neither}
 use Rattle.timbuk_reader.proofs.state.Reader.variable_name.Goals as goal
+
+pub returns-in_err-name-clause-reads : goal.returns-in_err-name-clause-reads
+returns-in_err-name-clause-reads c =
+    let e = c.in_err-name.field-0.0 in
+    let stops : Stops (name role.Variable) closed c.args.self.now e = no_word_stops (terminal.Named role.Variable) closed c.args.self.now e tt closed_calm c.in_err-name.ensures.err in
+    grind (arith, common_steps)
 
 pub returns-then-len-ge-MAX_DECLARED-clause-reads : goal.returns-then-len-ge-MAX_DECLARED-clause-reads
 returns-then-len-ge-MAX_DECLARED-clause-reads c =

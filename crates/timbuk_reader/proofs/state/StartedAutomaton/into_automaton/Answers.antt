@@ -1,26 +1,28 @@
-use Rattle.std.proofs.Common.{All, Contains, ap, sym, subst, ◌∙◌}
-use Rattle.ta_core.specs.TreeAutomaton.{TreeAutomaton, IsTransOf, IsEpsOf}
+use Rattle.std.proofs.Common.{◌≡◌, ℕ, true, ap, sym, subst, ◌∙◌}
+use Rattle.std.specs.List.{range_with_len}
+use Rattle.ta_core.specs.TreeAutomaton.{TreeAutomaton, bare}
+use Rattle.timbuk_reader.specs.Kept.{states_are_below, trans_are_below, eps_are_below}
 use Rattle.timbuk_reader.specs.View.{started}
-use Rattle.timbuk_reader.proofs.keeping.Automata.{states_numbered, trans_numbered, moves_numbered, is_automaton_of}
+use Rattle.spec_text.specs.Spelled.{IsAutomatonOf}
 use Rattle.timbuk_reader.proofs.state.StartedAutomaton.into_automaton.Goals as goal
 
-pub set_all_final-requires : goal.set_all_final-requires
-set_all_final-requires c = subst (λ l. All (Contains l) c.args.self.finals) (sym (ap (λ (E : TreeAutomaton). E.states) c.in_ok-automaton.ensures)) (states_numbered c.args.count c.args.self.finals c.requires.finals)
+-- the number of the states of an automaton that has states alone
+numbered : (A : TreeAutomaton) (count : ℕ) → A ≡ bare count (range_with_len 0 count) → A.next ≡ count
+numbered A count e = ap (λ (E : TreeAutomaton). E.next) e
 
-pub add_all_trans-requires : goal.add_all_trans-requires
-add_all_trans-requires c =
-    subst (λ l. All (IsTransOf l) c.args.self.trans) (sym (ap (λ (E : TreeAutomaton). E.states) c.in_ok-set_all_final.ensures.rest ∙ ap (λ (E : TreeAutomaton). E.states) c.in_ok-automaton.ensures)) (trans_numbered c.args.count c.args.self.trans c.requires.trans)
+pub add_to-requires-clause-bare : goal.add_to-requires-clause-bare
+add_to-requires-clause-bare c =
+    let A = c.in_ok-automaton.automaton in
+    c.in_ok-automaton.ensures ∙ ap (λ n. bare n (range_with_len 0 n)) (sym (numbered A c.args.count c.in_ok-automaton.ensures))
 
-pub add_all_eps-requires : goal.add_all_eps-requires
-add_all_eps-requires c =
-    let states = ap (λ (E : TreeAutomaton). E.states) c.in_ok-add_all_trans.ensures.rest ∙ ap (λ (E : TreeAutomaton). E.states) c.in_ok-set_all_final.ensures.rest ∙ ap (λ (E : TreeAutomaton). E.states) c.in_ok-automaton.ensures in
-    subst (λ l. All (IsEpsOf l) c.in_ok-moves.moves) (sym states)
-    (rw (c.in_ok-moves.ensures, c.as_slice.ensures) (moves_numbered c.args.count c.args.self.eps c.requires.eps))
+pub add_to-requires-clause-finals : goal.add_to-requires-clause-finals
+add_to-requires-clause-finals c = subst (λ n. states_are_below n c.args.self.finals ≡ true) (sym (numbered c.in_ok-automaton.automaton c.args.count c.in_ok-automaton.ensures)) c.requires.finals
+
+pub add_to-requires-clause-trans : goal.add_to-requires-clause-trans
+add_to-requires-clause-trans c = subst (λ n. trans_are_below n c.args.self.trans ≡ true) (sym (numbered c.in_ok-automaton.automaton c.args.count c.in_ok-automaton.ensures)) c.requires.trans
+
+pub add_to-requires-clause-eps : goal.add_to-requires-clause-eps
+add_to-requires-clause-eps c = subst (λ n. eps_are_below n c.args.self.eps ≡ true) (sym (numbered c.in_ok-automaton.automaton c.args.count c.in_ok-automaton.ensures)) c.requires.eps
 
 pub returns : goal.returns
-returns c =
-    let finals = c.in_ok-set_all_final.ensures in
-    let trans = c.in_ok-add_all_trans.ensures in
-    let eps = c.in_ok-add_all_eps.ensures in
-    is_automaton_of c.args.count (started c.args.self) c.in_ok-automaton.automaton c.set_all_final.new.self c.add_all_trans.new.self c.add_all_eps.new.self c.in_ok-moves.moves c.in_ok-automaton.ensures finals.rest trans.rest eps.rest
-    (rw c.as_slice.ensures at c.in_ok-moves.ensures) finals.members finals.sorted trans.members trans.sorted eps.members eps.sorted
+returns c = subst (λ n. IsAutomatonOf n (started c.args.self) c.add_to.new.automaton) (numbered c.in_ok-automaton.automaton c.args.count c.in_ok-automaton.ensures) c.in_ok-add_to.ensures
