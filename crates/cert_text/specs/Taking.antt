@@ -1,6 +1,6 @@
 -- One line that is taken or refused. These serve private contracts alone.
 use Rattle.std.specs.Prelude.{◌≡◌, ◌≢◌, ℕ, ◌+◌, ◌<◌, ◌==◌, get_or, Bool, false, List, [], ◌∷◌, ◌++◌, length, map, Option, Some, None, IfSome, All, Contains, if◌then◌else◌}
-use Rattle.std.specs.List.{list_any}
+use Rattle.std.specs.List.{list_any, join_with_byte}
 use Rattle.std.specs.declared.cmp.Ordering.TheVariants.{Less}
 use Rattle.ranked_terms.specs.Names.{Symbol, number_of, arity_of}
 use Rattle.ranked_terms.specs.Words.{IsWord}
@@ -11,7 +11,7 @@ use Rattle.cert_text.specs.declared.certificate.CertFault.{CertFault}
 use Rattle.cert_text.specs.declared.certificate.CertKind.{CertKind}
 use Rattle.cert_text.specs.declared.certificate.CertKind.TheVariants as kind
 use Rattle.ranked_terms.specs.Texts.{Text, number_word, symbol_text, with_args}
-use Rattle.cert_text.specs.Cuts.{Lacks, saturated, arrow_text}
+use Rattle.cert_text.specs.Cuts.{Lacks, saturated, arrow_text, AppendsBehind}
 use Rattle.cert_text.specs.Lines.{Line, unreachable, reachable, precise, next, rounds, states, finals as finals_line, maps, eps, end}
 use Rattle.cert_text.specs.Certificates.{note_lines, trans_line}
 use Rattle.cert_text.specs.Faults.{Known, Begins, IsRight, RowFits, Takes, TellsSymbol}
@@ -51,6 +51,18 @@ pub record FaultFrom (spec : Spec) (k : Known) (bytes : Text) (count : ℕ) (f :
   pub before : Takes spec k bytes lines known rest
   pub number : f.line ≡ count + length lines + 1
   pub row : RowFits spec known rest f.kind
+
+-- the bytes begin with a line that is the head with words of numbers behind it, the greatest u32 in the place of greater ones
+pub record IsNumberLine (head bytes rest : Text) (numbers : List ℕ) : Type 0 where
+  pub text : Text
+  pub told : bytes ≡ text ++ 10 ∷ rest
+  pub appends : AppendsBehind head text [] numbers
+
+-- or with no such line
+pub data LacksNumberLine (head bytes : Text) : Type 0 where
+  endless : Lacks 10 bytes → LacksNumberLine head bytes
+  unlike : (text rest : Text) → bytes ≡ text ++ 10 ∷ rest → Lacks 10 text → ((ns : List ℕ) → text ≡ join_with_byte 32 (head ∷ map number_word ns) → ⊥)
+      → LacksNumberLine head bytes
 
 -- the lines between the verdict and the map, and what they tell
 abbrev pub listed_lines : ℕ → Bool → ℕ → List ℕ → List ℕ → List Line

@@ -12,7 +12,7 @@ ghost use Rattle.cert_text.specs.Lines as line;
 ghost use Rattle.cert_text.specs.Certificates.{note_lines};
 ghost use Rattle.cert_text.specs.Faults.{Known, nothing, learn, Takes};
 ghost use Rattle.cert_text.specs.Taking.{IsCounted, IsFirstLine, Taken, Refused, FaultFrom, verdict, noted, listed_lines};
-ghost use Rattle.cert_text.specs.Taking.{listed_known};
+ghost use Rattle.cert_text.specs.Taking.{listed_known, IsNumberLine, LacksNumberLine};
 
 use crate::certificate::{CertError, CertFault, CertKind};
 use crate::cuts::{is_text, number_behind, numbers_behind, parts};
@@ -204,6 +204,27 @@ impl<'a> Reader<'a> {
         }
     }
 
+    // The numbers behind the head of the next line, the greatest `u32` in the place of greater ones.
+    fn numbers(&mut self, alloc: Global, head: &[u8]) -> Result<Vec<u32>, CertError>
+        requires { IsCounted self.old.line self.old.rest.now }
+        ensures taken { IfOk result (λ numbers. IsNumberLine head.now self.old.rest.now self.new.rest.now numbers.items) }
+        ensures refused { (f : AFault) → result ≡ Err (Fault f)
+            → (record { kind = CertKind.Line; line = self.new.line } ≡ f) × LacksNumberLine head.now self.old.rest.now }
+        ensures number { self.new.line ≡ self.old.line + 1 }
+        ensures counted { OnOk result (IsCounted self.new.line self.new.rest.now) }
+    {
+        let text = match self.whole_line() {
+            Ok(text) => text,
+            Err(error) => return Err(error),
+        };
+        let mut numbers = Vec::new(alloc);
+        let told = numbers_behind(text, head, &mut numbers)?;
+        if !told {
+            return Err(self.fault(CertKind::Line));
+        }
+        Ok(numbers)
+    }
+
     /// The states.
     pub(crate) fn states(&mut self, alloc: Global, next: u32) -> Result<Vec<u32>, CertError>
         requires few { next ≤ 16384 }
@@ -216,15 +237,10 @@ impl<'a> Reader<'a> {
         ensures number { self.new.line ≡ self.old.line + 1 }
         ensures counted { OnOk result (IsCounted self.new.line self.new.rest.now) }
     {
-        let text = match self.whole_line() {
-            Ok(text) => text,
+        let states = match self.numbers(alloc, b"States") {
+            Ok(states) => states,
             Err(error) => return Err(error),
         };
-        let mut states = Vec::new(alloc);
-        let told = numbers_behind(text, b"States", &mut states)?;
-        if !told {
-            return Err(self.fault(CertKind::Line));
-        }
         let listed = states.as_slice();
         let below = are_below(listed, next);
         if !below {
@@ -274,15 +290,10 @@ impl<'a> Reader<'a> {
         ensures number { self.new.line ≡ self.old.line + 1 }
         ensures counted { OnOk result (IsCounted self.new.line self.new.rest.now) }
     {
-        let text = match self.whole_line() {
-            Ok(text) => text,
+        let finals = match self.numbers(alloc, b"Finals") {
+            Ok(finals) => finals,
             Err(error) => return Err(error),
         };
-        let mut finals = Vec::new(alloc);
-        let told = numbers_behind(text, b"Finals", &mut finals)?;
-        if !told {
-            return Err(self.fault(CertKind::Line));
-        }
         let listed = finals.as_slice();
         let known = are_listed(listed, states);
         if !known {
@@ -420,15 +431,10 @@ impl<'a> Reader<'a> {
         ensures number { self.new.line ≡ self.old.line + 1 }
         ensures counted { OnOk result (IsCounted self.new.line self.new.rest.now) }
     {
-        let text = match self.whole_line() {
-            Ok(text) => text,
+        let images = match self.numbers(alloc, b"Map") {
+            Ok(images) => images,
             Err(error) => return Err(error),
         };
-        let mut images = Vec::new(alloc);
-        let told = numbers_behind(text, b"Map", &mut images)?;
-        if !told {
-            return Err(self.fault(CertKind::Line));
-        }
         let listed = images.as_slice();
         if listed.len() != count {
             return Err(self.fault(CertKind::Count));

@@ -7,7 +7,7 @@ ghost use Rattle.ta_core.specs.declared.trans.Trans.{Trans as Transition};
 ghost use Rattle.ta_clean.specs.Meeting.{FinalsMeet, IsLeastMeeting};
 ghost use Rattle.ta_clean.specs.Uses.{places_of};
 ghost use Rattle.closure_check.specs.Rooms.{Fits, HasTables, sets_of_rules};
-ghost use Rattle.closure_check.specs.Marking.{LeadsOn, LeadsBack};
+ghost use Rattle.closure_check.specs.Marking.{Marked, LeadsOn, LeadsBack};
 
 use crate::answer::Missing;
 use crate::closing::first_open;
@@ -60,26 +60,30 @@ impl Room {
     pub fn new(alloc: Global, spec: &Spec, automaton: &Automaton) -> Result<Room, AllocError>
         ensures { IfOk result (λ room. Fits room spec.now automaton.now) }
     {
+        let room = Room::sized(alloc, spec, automaton)?;
+        if !room.fits(spec, automaton) {
+            return Err(AllocError);
+        }
+        Ok(room)
+    }
+
+    // The memory by the sizes of the specification and the automaton. That it is enough is yet to be tested.
+    fn sized(alloc: Global, spec: &Spec, automaton: &Automaton) -> Result<Room, AllocError>
+        ensures { IfOk result (λ room. room.states ≡ automaton.now.next) }
+    {
         let count = sets_for(spec.rules.as_slice(), spec.initial.trans());
         let states = automaton.next() as usize;
-        let mut sets = Vec::new(alloc);
-        for _ in 0..count {
-            sets.push(Marks::new(alloc, states)?)?;
-        }
+        let sets = empty_sets(alloc, count, states)?;
         let (forward, back) = tables(alloc, automaton)?;
         let meetings = Meetings::new(alloc, automaton, &spec.forbidden)?;
-        let room = Room {
+        Ok(Room {
             alloc,
             sets,
             states,
             forward,
             back,
             meetings,
-        };
-        if !room.fits(spec, automaton) {
-            return Err(AllocError);
-        }
-        Ok(room)
+        })
     }
 
     /// Whether there is enough room for the check of this specification and automaton. It takes no memory.
@@ -178,6 +182,18 @@ impl Room {
     {
         least_meeting(&mut self.meetings, automaton, forbidden)
     }
+}
+
+// So many empty sets of states below the bound.
+fn empty_sets(alloc: Global, count: usize, bound: usize) -> Result<Vec<Marks>, AllocError>
+    requires { bound < 2 ^ 32 }
+    ensures { IfOk result (λ sets. All (λ (set : Marked). set.size ≡ bound) sets.items) }
+{
+    let mut sets = Vec::new(alloc);
+    for _ in 0..count {
+        sets.push(Marks::new(alloc, bound)?)?;
+    }
+    Ok(sets)
 }
 
 // The tables of what the automaton's epsilon transitions lead to, forwards and back. Where there are none, nothing is needed.

@@ -17,7 +17,7 @@ use Rattle.cert_text.specs.Lines as line
 use Rattle.cert_text.specs.Lines.{Line, words_of, IsFormed, Follows, first, claims, derives, after_unreachable, after_next, after_states, noted as is_noted, after_rounds, after_precise, after_finals, eps_eps, eps_end}
 use Rattle.cert_text.specs.Certificates.{undecided_words}
 use Rattle.cert_text.specs.Faults.{Known, Begins, LineIs, ended, unended, RowFits, head, no_claim, no_form, field, IsRight, count, state, order, ComesAfter}
-use Rattle.cert_text.specs.Taking.{IsFirstLine, Taken, Refused, verdict}
+use Rattle.cert_text.specs.Taking.{IsFirstLine, Taken, Refused, verdict, LacksNumberLine, endless, unlike}
 use Rattle.cert_text.proofs.fields.Texts.{front_once, joined_lacks}
 use Rattle.cert_text.proofs.fields.Applied.{never, lacks}
 use Rattle.cert_text.proofs.fields.Behind.{cancel}
@@ -156,8 +156,9 @@ unsaturated n (q ∷ qs) few h =
 states_only : (text : Text) (n : ℕ) (l : Line) → Follows (Some (line.next n)) l → text ≡ text_of_line l → ((qs : List ℕ) → text ≡ text_of_line (line.states qs) → ⊥) → ⊥
 states_only text n l (after_next {qs = qs}) e never = never qs e
 
-pub states_row : (spec : Spec) (k : Known) (n : ℕ) (bytes text rest : Text) → k.before ≡ Some (line.next n) → bytes ≡ text ++ 10 ∷ rest → Lacks 10 text → ((qs : List ℕ) → text ≡ text_of_line (line.states qs) → ⊥) → RowFits spec k bytes kind.Line
-states_row spec k n bytes text rest at told free never =
+pub states_row : (spec : Spec) (k : Known) (n : ℕ) (bytes : Text) → k.before ≡ Some (line.next n) → LacksNumberLine (codes "States") bytes → RowFits spec k bytes kind.Line
+states_row spec k n bytes at (endless lacks) = unended_row spec k bytes (ap place at) lacks
+states_row spec k n bytes at (unlike text rest told free never) =
     line_row spec k bytes text rest (ap place at) told free (λ l follows formed e. states_only text n l (subst (λ (o : Option Line). Follows o l) at follows) e never)
 
 states_begin : (k : Known) (n : ℕ) (bytes text rest : Text) (qs : List ℕ) → k.before ≡ Some (line.next n) → bytes ≡ text ++ 10 ∷ rest → text ≡ text_of_line (line.states qs) → Begins k bytes (line.states qs) rest
@@ -218,8 +219,9 @@ listed_same states ns small h = unsaturated 16384 ns (omega arith) (saturated_be
 finals_only : (text : Text) (ps : List ℕ) (l : Line) → Follows (Some (line.states ps)) l → text ≡ text_of_line l → ((qs : List ℕ) → text ≡ text_of_line (line.finals qs) → ⊥) → ⊥
 finals_only text ps l (after_states {qs = qs}) e never = never qs e
 
-pub finals_row : (spec : Spec) (k : Known) (ps : List ℕ) (bytes text rest : Text) → k.before ≡ Some (line.states ps) → bytes ≡ text ++ 10 ∷ rest → Lacks 10 text → ((qs : List ℕ) → text ≡ text_of_line (line.finals qs) → ⊥) → RowFits spec k bytes kind.Line
-finals_row spec k ps bytes text rest at told free never =
+pub finals_row : (spec : Spec) (k : Known) (ps : List ℕ) (bytes : Text) → k.before ≡ Some (line.states ps) → LacksNumberLine (codes "Finals") bytes → RowFits spec k bytes kind.Line
+finals_row spec k ps bytes at (endless lacks) = unended_row spec k bytes (ap place at) lacks
+finals_row spec k ps bytes at (unlike text rest told free never) =
     line_row spec k bytes text rest (ap place at) told free (λ l follows formed e. finals_only text ps l (subst (λ (o : Option Line). Follows o l) at follows) e never)
 
 finals_begin : (k : Known) (ps : List ℕ) (bytes text rest : Text) (qs : List ℕ) → k.before ≡ Some (line.states ps) → bytes ≡ text ++ 10 ∷ rest → text ≡ text_of_line (line.finals qs) → Begins k bytes (line.finals qs) rest
@@ -271,8 +273,9 @@ up_to P n before last k lt = go (k == n) refl
 maps_only : (text : Text) (fs : List ℕ) (l : Line) → Follows (Some (line.finals fs)) l → text ≡ text_of_line l → ((qs : List ℕ) → text ≡ text_of_line (line.maps qs) → ⊥) → ⊥
 maps_only text fs l (after_finals {qs = qs}) e never = never qs e
 
-pub maps_row : (spec : Spec) (k : Known) (fs : List ℕ) (bytes text rest : Text) → k.before ≡ Some (line.finals fs) → bytes ≡ text ++ 10 ∷ rest → Lacks 10 text → ((qs : List ℕ) → text ≡ text_of_line (line.maps qs) → ⊥) → RowFits spec k bytes kind.Line
-maps_row spec k fs bytes text rest at told free never =
+pub maps_row : (spec : Spec) (k : Known) (fs : List ℕ) (bytes : Text) → k.before ≡ Some (line.finals fs) → LacksNumberLine (codes "Map") bytes → RowFits spec k bytes kind.Line
+maps_row spec k fs bytes at (endless lacks) = unended_row spec k bytes (ap place at) lacks
+maps_row spec k fs bytes at (unlike text rest told free never) =
     line_row spec k bytes text rest (ap place at) told free (λ l follows formed e. maps_only text fs l (subst (λ (o : Option Line). Follows o l) at follows) e never)
 
 maps_begin : (k : Known) (fs : List ℕ) (bytes text rest : Text) (qs : List ℕ) → k.before ≡ Some (line.finals fs) → bytes ≡ text ++ 10 ∷ rest → text ≡ text_of_line (line.maps qs) → Begins k bytes (line.maps qs) rest
