@@ -45,9 +45,12 @@ fn add_renamed(
     requires bare { merged.old ≡ bare a.now.next (quotient a.now classes.now).states }
     ensures { OnOk result (merged.new ≡ quotient a.now classes.now) }
 {
-    merged.set_all_final(new_states(alloc, a.finals(), classes)?)?;
-    merged.add_all_trans(new_trans(alloc, a.trans(), classes)?)?;
-    merged.add_all_eps(new_eps(alloc, a.eps(), classes)?)?;
+    let finals = new_states(alloc, a.finals(), classes)?;
+    merged.set_all_final(finals)?;
+    let trans = new_trans(alloc, a.trans(), classes)?;
+    merged.add_all_trans(trans)?;
+    let eps = new_eps(alloc, a.eps(), classes)?;
+    merged.add_all_eps(eps)?;
     Ok(())
 }
 
