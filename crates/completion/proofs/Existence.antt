@@ -12,7 +12,7 @@ use Rattle.eq_merge.specs.Quotients.{apart, joining, followed}
 use Rattle.eq_merge.specs.Merging.{Merged}
 use Rattle.eq_merge.specs.MergingLaws.{MergedIsThere}
 use Rattle.completion.specs.Stages.{started, context_of, IsStage}
-use Rattle.completion.specs.StagesLaws.{HasStage, StagesAreThere}
+use Rattle.completion.specs.StagesLaws.{StagesAreThere}
 use Rattle.completion.proofs.Sequences.{range_had}
 use Rattle.completion.proofs.Carrying.{first_states}
 

@@ -1,21 +1,16 @@
 -- Rounds lead from stage to stage.
-use Rattle.std.proofs.Common.{◌≡◌, ◌⊎◌, ℕ, ◌+◌, ◌<◌, ◌≤◌, List, [], ◌∷◌, take, Contains, refl, sym, subst, ◌∙◌, ⊎_elim, arith}
-use Rattle.std.proofs.lemmas.List.Elements.{All-weaker, All-contains}
+use Rattle.std.proofs.Common.{◌≡◌, ℕ, ◌+◌, ◌≤◌, List, take, refl, sym, subst, ◌∙◌, ⊎_elim, arith}
 use Rattle.std.proofs.lemmas.Bool.{cases_lt}
-use Rattle.trs_rules.specs.Rules.{RewriteEquation}
-use Rattle.ta_core.specs.TreeAutomaton.{TreeAutomaton, IsSound}
+use Rattle.ta_core.specs.TreeAutomaton.{TreeAutomaton}
 use Rattle.ta_core.specs.Acceptance.{IsContained, IsAccepted}
 use Rattle.ta_core.specs.declared.spec.Spec.{Spec}
 use Rattle.ta_core.specs.declared.options.Options.{Options}
-use Rattle.normalise.specs.NormalisingLaws.{IsGrown}
 use Rattle.eq_merge.specs.Quotients.{apart}
-use Rattle.eq_merge.specs.Merging.{Forces, ForcedAmong, pairs_of, Merged}
 use Rattle.completion.specs.Stages.{IsStage, EndsAt, GoesOn, GoesOnBefore, Ends, started}
 use Rattle.completion.specs.StagesLaws.{StagesAreOne}
-use Rattle.completion.specs.Standing.{Standing, HasPlaces, IsMerged, IsResolved, IsPassed, StandsAt, Reaches}
+use Rattle.completion.specs.Standing.{Standing, IsMerged, IsResolved, IsPassed, StandsAt, Reaches}
 use Rattle.completion.specs.declared.end.StageEnd.{StageEnd}
 use Rattle.completion.specs.declared.end.StageEnd.TheVariants as end
-use Rattle.completion.proofs.Sequences.{moved_nowhere}
 
 -- ---- a round
 

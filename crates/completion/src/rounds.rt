@@ -7,7 +7,7 @@ ghost use Rattle.ta_core.specs.Reachability.{Reachable, Forbidden};
 ghost use Rattle.normalise.specs.NormalisingLaws.{IsGrown};
 ghost use Rattle.eq_merge.specs.Quotients.{followed};
 ghost use Rattle.completion.specs.Stages.{EndsAt, Ends};
-ghost use Rattle.completion.specs.Standing.{Turns, IsMerged, IsPassed};
+ghost use Rattle.completion.specs.Standing.{Turns, IsMerged, IsPassed, Reaches};
 
 use crate::end::StageEnd;
 use crate::laws::stages_are_one;
@@ -90,16 +90,16 @@ impl<'a> Core<'a> {
 
     /// Goes on with the automaton, in which what was there still is, merged by the equations. The only error is running out of
     /// memory; then the core is as before.
-    fn go_on_with(&mut self, grown: Automaton) -> Result<(), AllocError>
-        requires { IsGrown self.old.automaton grown }
-        ensures ok { OnOk result (IsMerged self.old grown self.new.automaton self.new.places) }
+    fn go_on_with(&mut self, grown: &Automaton) -> Result<(), AllocError>
+        requires { IsGrown self.old.automaton grown.now }
+        ensures ok { OnOk result (IsMerged self.old grown.now self.new.automaton self.new.places) }
         ensures same { (self.new.spec ≡ self.old.spec) × (self.new.options ≡ self.old.options) }
         ensures err { OnErr result (self.new ≡ self.old) }
     {
         // For the proof: the states are below `next`.
         let _ = grown.states();
         let _ = self.spec.initial.states();
-        let (automaton, classes) = merged(self.alloc, &grown, self.spec.equations.as_slice())?;
+        let (automaton, classes) = merged(self.alloc, grown, self.spec.equations.as_slice())?;
         let map = moved(self.alloc, &self.map, &classes)?;
         self.automaton = automaton;
         self.map = map;
@@ -121,7 +121,7 @@ impl<'a> Core<'a> {
         match self.turn(number)? {
             Turn::Ends(end) => Ok(Some(end)),
             Turn::Grown(grown) => {
-                self.go_on_with(grown)?;
+                self.go_on_with(&grown)?;
                 Ok(None)
             }
         }
@@ -169,16 +169,26 @@ fn completed<'a>(
     ensures same { IfOk result (λ pair. (pair.0.spec ≡ spec.now) × (pair.0.options ≡ options)) }
     ensures ends { IfOk result (λ pair. Ends spec.now options pair.0.automaton pair.0.places pair.1) }
 {
+    let mut core = Core::start(alloc, spec, options)?;
+    let end = end_of(&mut core, options)?;
+    Ok((core, end))
+}
+
+/// Goes on from the first stage to the least one at which something ends completion, and says what ends it. The only error is
+/// running out of memory.
+fn end_of(core: &mut Core, options: Options) -> Result<StageEnd, AllocError>
+    requires { Reaches core.old.spec options core.old 0 }
+    ensures same { (core.new.spec ≡ core.old.spec) × (core.new.options ≡ core.old.options) }
+    ensures ends { IfOk result (Ends core.old.spec options core.new.automaton core.new.places) }
+{
     // For the proof: the stage of a number is one.
     stages_are_one();
-    let mut core = Core::start(alloc, spec, options)?;
     for number in 0..options.rounds {
         if let Some(end) = core.advance(number)? {
-            return Ok((core, end));
+            return Ok(end);
         }
     }
-    let end = core.last_end(options.rounds)?;
-    Ok((core, end))
+    core.last_end(options.rounds)
 }
 
 /// Completes a specification within the options: the least stage at which something ends completion, and what ends it. The

@@ -49,13 +49,29 @@ pub fn open_pairs(
     ensures more { IsErrOf result PairError.More →
         (pairs : List Triple) × AreOpenPairs automaton.now rules.now pairs × (limit < length pairs) }
 {
+    let matcher = Matcher::new(alloc, automaton, have_variables(rules))?;
+    pairs_of_all(alloc, &matcher, rules, limit)
+}
+
+/// As `open_pairs`, in an automaton that is ready for the left sides of all rules.
+fn pairs_of_all(
+    alloc: Global,
+    matcher: &Matcher,
+    rules: &[Rule],
+    limit: u32,
+) -> Result<Seq<Pair>, PairError>
+    requires { length rules.now < 2 ^ 32 }
+    ensures all { IfOk result (λ pairs. AreOpenPairs matcher.now rules.now pairs) }
+    ensures few { IfOk result (λ pairs. length pairs ≤ limit) }
+    ensures more { IsErrOf result PairError.More →
+        (pairs : List Triple) × AreOpenPairs matcher.now rules.now pairs × (limit < length pairs) }
+{
     // For the proof: open triples in ascending order are the list of open pairs, and there is one; and the states ascend.
     laws::open_pairs_are_listed();
-    let _ = automaton.states();
-    let matcher = Matcher::new(alloc, automaton, have_variables(rules))?;
+    let _ = matcher.automaton().states();
     let mut pairs = Seq::new(alloc);
     for (number, rule) in rules.iter().enumerate() {
-        pairs = with_pairs_of(alloc, &matcher, number as u32, rule, limit, pairs)?;
+        pairs = with_pairs_of(alloc, matcher, number as u32, rule, limit, pairs)?;
     }
     Ok(pairs)
 }

@@ -6,10 +6,10 @@ use Rattle.ta_core.specs.TreeAutomaton.{TreeAutomaton}
 use Rattle.ta_core.specs.Growth.{IsLeastTarget, HasNoTarget}
 use Rattle.ta_core.specs.Acceptance.{image}
 use Rattle.ta_core.specs.declared.trans.Trans.{Trans}
-use Rattle.eq_merge.specs.Quotients.{quotient, followed}
+use Rattle.eq_merge.specs.Quotients.{quotient, apart, followed}
 use Rattle.eq_merge.specs.MergingLaws.{IsOnTheWay}
-use Rattle.eq_merge.specs.Joined.{put_together}
-use Rattle.eq_merge.specs.Ends.{across}
+use Rattle.eq_merge.specs.Joined.{Joined, put_together}
+use Rattle.eq_merge.specs.Ends.{AreEquatedBy, across}
 use Rattle.eq_merge.specs.declared.merging.Merging.{Merging}
 
 -- an end of the list, and the least one across from it
@@ -41,3 +41,9 @@ pub record IsPart (A : TreeAutomaton) (h : List ℕ) (B : TreeAutomaton) : Type 
   pub next : B.next ≡ A.next
   pub states : (q : ℕ) → Contains B.states q → Contains (quotient A h).states q
   pub trans : (t : Trans) → Contains B.trans t → Contains (quotient A h).trans t
+
+-- classes that put together what is equated in some such part
+pub record IsJoinedInPart (E : List RewriteEquation) (A : TreeAutomaton) (h u : List ℕ) : Type 0 where
+  pub part : TreeAutomaton
+  pub is : IsPart A h part
+  pub joined : Joined (AreEquatedBy part E) (apart part.next) u

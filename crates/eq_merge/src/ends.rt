@@ -1,6 +1,6 @@
 //! Where the runs of an equation's sides end: each side is matched once, and the ends are found by the states of the variables
 //! that stand in both sides.
-ghost use Rattle.std.specs.Prelude.{◌≡◌, ◌↔◌, ◌≤◌, ◌==◌, ℕ, [], length, filter, Contains, IfOk};
+ghost use Rattle.std.specs.Prelude.{◌≡◌, ◌↔◌, ◌⊎◌, ◌≤◌, ◌==◌, ℕ, [], length, filter, All, Contains, IfOk, OnOk};
 ghost use Rattle.std.specs.List.{list_any, position_or_len};
 ghost use Rattle.ranked_terms.specs.Terms.{variables_of};
 ghost use Rattle.ta_core.specs.declared.trans.Trans.{Trans as Transition};
@@ -51,13 +51,47 @@ pub(crate) fn ends_of(
     ensures { IfOk result (λ ends. AreEnds matcher.now equation.now ends) }
 {
     let shared = shared_variables(alloc, equation)?;
-    let left = side_ends(alloc, matcher, equation.left(), LEFT, shared.as_slice())?;
-    let right = side_ends(alloc, matcher, equation.right(), RIGHT, shared.as_slice())?;
     let automaton = matcher.automaton();
     let mut ends = Automaton::with_states(alloc, automaton.next(), automaton.states())?;
-    ends.add_all_trans(left)?;
-    ends.add_all_trans(right)?;
+    add_side(
+        alloc,
+        matcher,
+        equation.left(),
+        LEFT,
+        shared.as_slice(),
+        &mut ends,
+    )?;
+    add_side(
+        alloc,
+        matcher,
+        equation.right(),
+        RIGHT,
+        shared.as_slice(),
+        &mut ends,
+    )?;
     Ok(ends)
+}
+
+/// Adds the ends of one side to an automaton with the same states. The only error is running out of memory.
+fn add_side(
+    alloc: Global,
+    matcher: &Matcher,
+    pattern: &Pattern,
+    side: u32,
+    shared: &[u32],
+    ends: &mut Automaton,
+) -> Result<(), AllocError>
+    requires few { length (variables_of pattern.now) ≤ 16 }
+    requires plain { matcher.now.eps ≡ [] }
+    requires shared { All (Contains (variables_of pattern.now)) shared.now }
+    requires states { ends.old.states ≡ matcher.now.states }
+    ensures members { OnOk result ((t : Transition) → Contains ends.new.trans t ↔
+        (Contains ends.old.trans t ⊎ ((t.sym ≡ side) × EndsAt matcher.now pattern.now shared.now t.args t.to))) }
+    ensures rest { OnOk result (ends.new ≡ record ends.old { trans = ends.new.trans }) }
+{
+    // For the proof: what runs lead to is a state.
+    let _ = matcher.automaton().next();
+    ends.add_all_trans(side_ends(alloc, matcher, pattern, side, shared)?)
 }
 
 /// The variables that stand in both sides. The only error is running out of memory.

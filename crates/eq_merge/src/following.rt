@@ -1,12 +1,17 @@
 //! Merges that follow from others. They are looked for near the states that have come into other classes, so that a chain of
 //! merges of which each forces the next takes no pass over the whole automaton for each.
-ghost use Rattle.std.specs.Prelude.{◌≡◌, ℕ, [], ◌∷◌, ◌++◌, map, Contains, IfOk, IfSome};
+ghost use Rattle.std.specs.Prelude.{◌≡◌, ◌<◌, ◌≤◌, ℕ, [], ◌∷◌, ◌++◌, map, All, Contains, IfOk, IfSome};
+ghost use Rattle.std.specs.Ordering.{nat_cmp};
+ghost use Rattle.std.specs.List.Sorted.{IsStrictlySortedBy};
+ghost use Rattle.list_laws.specs.Lists.{IsUnion};
+ghost use Rattle.ta_core.specs.Limits.{max_states};
+ghost use Rattle.ta_core.specs.TreeAutomaton.{IsTransOf, bare};
 ghost use Rattle.ta_core.specs.declared.trans.Trans.{Trans as Transition};
 ghost use Rattle.eq_merge.specs.Quotients.{AreLeasts, renamed, apart};
 ghost use Rattle.eq_merge.specs.MergingLaws.{IsOnTheWay};
 ghost use Rattle.eq_merge.specs.Ends.{AreEquatedBy};
 ghost use Rattle.eq_merge.specs.Joined.{Joined};
-ghost use Rattle.eq_merge.specs.Passes.{IsFurther, IsPart};
+ghost use Rattle.eq_merge.specs.Passes.{IsFurther, IsJoinedInPart, IsPart};
 ghost use Rattle.eq_merge.specs.Rows.{HasMore};
 
 use crate::merging::lists_ascend;
@@ -59,10 +64,25 @@ fn turn(
     if places.is_empty() {
         return Ok(None);
     }
-    let part = part_of(alloc, automaton, classes, places.as_slice())?;
-    let joined = joined_in(alloc, &part, equations)?;
+    let joined = joined_near(alloc, automaton, equations, classes, places.as_slice())?;
     nearby.join(joined.as_slice())?;
     Ok(Some(classes.followed(alloc, &joined)?))
+}
+
+/// The classes of what is equated in the part of the automaton, with these classes for its states, that has the transitions at
+/// these places. The only error is running out of memory.
+fn joined_near(
+    alloc: Global,
+    automaton: &Automaton,
+    equations: &[Equation],
+    classes: &Renaming,
+    places: &[usize],
+) -> Result<Renaming, AllocError>
+    requires { AreLeasts automaton.now classes.now }
+    ensures { IfOk result (IsJoinedInPart equations.now automaton.now classes.now) }
+{
+    let part = part_of(alloc, automaton, classes, places)?;
+    joined_in(alloc, &part, equations)
 }
 
 /// The classes of what is equated in an automaton. The only error is running out of memory.
@@ -93,9 +113,26 @@ fn part_of(
     lists_ascend(automaton);
     let trans = renamed_at(alloc, automaton.trans(), classes, places)?;
     let states = StateSet::from_states(alloc, states_of(alloc, trans.as_slice())?)?;
-    let mut part = Automaton::with_states(alloc, automaton.next(), states.as_slice())?;
-    part.add_all_trans(trans)?;
-    Ok(part)
+    between(alloc, automaton.next(), states.as_slice(), trans)
+}
+
+/// The automaton with these states and these transitions between them. The only error is running out of memory.
+fn between(
+    alloc: Global,
+    next: u32,
+    states: &[u32],
+    trans: Seq<Trans>,
+) -> Result<Automaton, AllocError>
+    requires few { next ≤ max_states }
+    requires ascend { IsStrictlySortedBy nat_cmp states.now }
+    requires below { All (λ q. q < next) states.now }
+    requires inside { All (IsTransOf states.now) trans }
+    ensures { IfOk result (λ made.
+        IsUnion [] trans made.trans × (made ≡ record (bare next states.now) { trans = made.trans })) }
+{
+    let mut made = Automaton::with_states(alloc, next, states)?;
+    made.add_all_trans(trans)?;
+    Ok(made)
 }
 
 /// The transitions at these places, with the states that stand for theirs. The only error is running out of memory.

@@ -73,11 +73,23 @@ fn all_ends(
     ensures { IfOk result (λ all. AllZip (AreEnds a.now) equations.now all) }
 {
     let plain = plain_part(a)?;
-    let matcher = Matcher::new(alloc, &plain, have_variables(equations))?;
+    plain_ends(alloc, &plain, equations)
+}
+
+/// As `all_ends`, in an automaton without epsilon transitions.
+fn plain_ends(
+    alloc: Global,
+    plain: &Automaton,
+    equations: &[Equation],
+) -> Result<Seq<Automaton>, AllocError>
+    requires { plain.now.eps ≡ [] }
+    ensures { IfOk result (λ all. AllZip (AreEnds plain.now) equations.now all) }
+{
+    let matcher = Matcher::new(alloc, plain, have_variables(equations))?;
     each_ends(alloc, &matcher, equations)
 }
 
-/// As `all_ends`, in an automaton without epsilon transitions that is ready for the sides of all equations.
+/// As `plain_ends`, in an automaton that is ready for the sides of all equations.
 fn each_ends(
     alloc: Global,
     matcher: &Matcher,

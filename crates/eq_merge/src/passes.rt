@@ -30,11 +30,27 @@ pub(crate) fn join_equated(
         return Ok(());
     }
     let plain = plain_part(automaton)?;
-    let matcher = Matcher::new(alloc, &plain, have_variables(equations))?;
+    join_plain(alloc, &plain, equations, classes)
+}
+
+/// As `join_equated`, in an automaton without epsilon transitions.
+fn join_plain(
+    alloc: Global,
+    plain: &Automaton,
+    equations: &[Equation],
+    classes: &mut Renaming,
+) -> Result<(), AllocError>
+    requires next { plain.now.next ≤ length classes.old }
+    requires plain { plain.now.eps ≡ [] }
+    ensures joined { OnOk result (Joined (AreEquatedBy plain.now equations.now) classes.old classes.new) }
+    ensures all { OnOk result ((p q : ℕ) →
+        AreEquatedBy plain.now equations.now p q → image classes.new p ≡ image classes.new q) }
+{
+    let matcher = Matcher::new(alloc, plain, have_variables(equations))?;
     join_each(alloc, &matcher, equations, classes)
 }
 
-/// As `join_equated`, in an automaton without epsilon transitions that is ready for the sides of all equations.
+/// As `join_plain`, in an automaton that is ready for the sides of all equations.
 fn join_each(
     alloc: Global,
     matcher: &Matcher,

@@ -1,6 +1,7 @@
 //! Quotients of automata.
-ghost use Rattle.std.specs.Prelude.{◌≡◌, ◌<◌, ◌==◌, ℕ, List, length, map, filter, All, Contains, IfOk};
+ghost use Rattle.std.specs.Prelude.{◌≡◌, ◌<◌, ◌==◌, ℕ, List, length, map, filter, All, Contains, IfOk, OnOk};
 ghost use Rattle.ta_core.specs.Acceptance.{image};
+ghost use Rattle.ta_core.specs.TreeAutomaton.{bare};
 ghost use Rattle.eq_merge.specs.CoherenceLaws.{JoinKeepsCoherence};
 ghost use Rattle.eq_merge.specs.Quotients.{AreLeasts, quotient, joining, renamed, renamed_eps, moves};
 
@@ -19,15 +20,38 @@ pub(crate) fn quotient_by(
     requires { AreLeasts a.now classes.now }
     ensures { IfOk result (λ merged. merged ≡ quotient a.now classes.now) }
 {
-    let states = least_states(alloc, a.states(), classes)?;
-    let mut merged = Automaton::with_states(alloc, a.next(), states.as_slice())?;
-    let finals = new_states(alloc, a.finals(), classes)?;
-    let trans = new_trans(alloc, a.trans(), classes)?;
-    let eps = new_eps(alloc, a.eps(), classes)?;
-    merged.set_all_final(finals)?;
-    merged.add_all_trans(trans)?;
-    merged.add_all_eps(eps)?;
+    let mut merged = least_alone(alloc, a, classes)?;
+    add_renamed(alloc, a, classes, &mut merged)?;
     Ok(merged)
+}
+
+/// The states that stand for themselves, and nothing else. The only error is running out of memory.
+fn least_alone(alloc: Global, a: &Automaton, classes: &Renaming) -> Result<Automaton, AllocError>
+    requires { AreLeasts a.now classes.now }
+    ensures { IfOk result (λ merged. merged ≡ bare a.now.next (quotient a.now classes.now).states) }
+{
+    let states = least_states(alloc, a.states(), classes)?;
+    Automaton::with_states(alloc, a.next(), states.as_slice())
+}
+
+/// Adds what the automaton has besides its states, with the states that stand for them. The only error is running out of memory.
+fn add_renamed(
+    alloc: Global,
+    a: &Automaton,
+    classes: &Renaming,
+    merged: &mut Automaton,
+) -> Result<(), AllocError>
+    requires leasts { AreLeasts a.now classes.now }
+    requires bare { merged.old ≡ bare a.now.next (quotient a.now classes.now).states }
+    ensures { OnOk result (merged.new ≡ quotient a.now classes.now) }
+{
+    let finals = new_states(alloc, a.finals(), classes)?;
+    merged.set_all_final(finals)?;
+    let trans = new_trans(alloc, a.trans(), classes)?;
+    merged.add_all_trans(trans)?;
+    let eps = new_eps(alloc, a.eps(), classes)?;
+    merged.add_all_eps(eps)?;
+    Ok(())
 }
 
 /// The states that stand for themselves.
@@ -72,15 +96,22 @@ fn new_trans(alloc: Global, trans: &[Trans], classes: &Renaming) -> Result<Seq<T
 pub(crate) fn renamed_one(alloc: Global, t: &Trans, classes: &Renaming) -> Result<Trans, AllocError>
     ensures { IfOk result (λ new. new ≡ renamed classes.now t.now) }
 {
-    let mut args = Vec::new(alloc);
-    for q in t.args.as_slice() {
-        args.push(classes.least_of(*q))?;
-    }
     Ok(Trans {
         sym: t.sym,
-        args: Args::from_slice(alloc, args.as_slice())?,
+        args: renamed_args(alloc, t.args.as_slice(), classes)?,
         to: classes.least_of(t.to),
     })
+}
+
+/// For each state the one that stands for it, and 0 for a number that is none. The only error is running out of memory.
+fn renamed_args(alloc: Global, states: &[u32], classes: &Renaming) -> Result<Args, AllocError>
+    ensures { IfOk result (λ args. args ≡ map (image classes.now) states.now) }
+{
+    let mut args = Vec::new(alloc);
+    for q in states {
+        args.push(classes.least_of(*q))?;
+    }
+    Args::from_slice(alloc, args.as_slice())
 }
 
 /// The epsilon transitions with these states, but for those from a state to itself.

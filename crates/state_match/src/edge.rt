@@ -9,7 +9,7 @@ ghost use Rattle.state_match.specs.declared.edge.Edge.{Edge as Node};
 ghost use Rattle.state_match.specs.Rows.{IsClosedBack, IsReverse};
 
 use crate::below::Below;
-use crate::join::{column, narrow};
+use crate::join::{narrow, wanted_next};
 use crate::tabled::Tabled;
 use crate::turned::Turned;
 use ranked_terms::Pattern;
@@ -51,7 +51,8 @@ impl Edge {
             return Ok(None);
         }
         let sets = &below.sets;
-        let column = column(
+        let count = args.len();
+        let first = wanted_next(
             alloc,
             automaton,
             reversed,
@@ -59,10 +60,9 @@ impl Edge {
             *sym,
             &[],
             sets,
-            args.len(),
+            count,
             wanted,
         )?;
-        let first = reversed.closed(column)?;
         let inner = &below.args[0];
         let edge = Edge::of(alloc, automaton, reversed, all, &first, &args[0], inner)?;
         let deeper = listed(alloc, edge)?;

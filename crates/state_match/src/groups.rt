@@ -64,7 +64,29 @@ pub fn each_group<V: Groups>(
         ⊎ TookUpTo V.took V.broke (MatchesAt plain automaton.now vars.now pattern.now) [] visitor.old visitor.new) }
 {
     let runs = runs_for(automaton, plain)?;
-    let matcher = Matcher::new(alloc, &runs, !vars.is_empty())?;
+    each_in_runs(alloc, plain, automaton, &runs, pattern, vars, visitor)
+}
+
+/// As `each_group`, where the automaton that the runs are looked up in is at hand.
+fn each_in_runs<V: Groups>(
+    alloc: Global,
+    plain: bool,
+    automaton: &Automaton,
+    runs: &Automaton,
+    pattern: &Pattern,
+    vars: &[u32],
+    visitor: &mut V,
+) -> Result<bool, AllocError>
+    requires short { length vars.now ≤ max_variables }
+    requires runs { RunsFor plain automaton.now runs.now }
+    ensures whole { IfOk result (λ on. IsTrue on →
+        TookAll V.took (MatchesAt plain automaton.now vars.now pattern.now) [] visitor.old visitor.new) }
+    ensures ended { IfOk result (λ on. IsTrue (not on) →
+        TookUpTo V.took V.ended (MatchesAt plain automaton.now vars.now pattern.now) [] visitor.old visitor.new) }
+    ensures err { OnErr result (TookFirst V.took (MatchesAt plain automaton.now vars.now pattern.now) [] visitor.old visitor.new
+        ⊎ TookUpTo V.took V.broke (MatchesAt plain automaton.now vars.now pattern.now) [] visitor.old visitor.new) }
+{
+    let matcher = Matcher::new(alloc, runs, !vars.is_empty())?;
     each_in(plain, automaton, &matcher, pattern, vars, visitor)
 }
 

@@ -5,7 +5,7 @@ ghost use Rattle.ta_core.specs.Closure.{state_in};
 ghost use Rattle.ta_core.specs.Runs.{Runs};
 ghost use Rattle.ta_core.specs.Reached.{EntersAndReaches};
 ghost use Rattle.state_match.specs.Belows.{IsBelow};
-ghost use Rattle.state_match.specs.Rows.{IsClosedBack, IsNextAt, IsReverse};
+ghost use Rattle.state_match.specs.Rows.{AreWantedNext, IsClosedBack, IsNextAt, IsReverse};
 
 use crate::below::Below;
 use crate::known::Known;
@@ -142,10 +142,9 @@ pub(crate) fn narrow(
                     None => {
                         let others = &below.sets[place..];
                         let count = args.as_slice().len();
-                        let column = column(
+                        let back = wanted_next(
                             alloc, automaton, reversed, all, *sym, &sets, others, count, wanted,
                         )?;
-                        let back = reversed.closed(column)?;
                         return narrow(
                             alloc, automaton, reversed, all, vars, bound, &back, arg, deeper,
                         );
@@ -157,11 +156,35 @@ pub(crate) fn narrow(
     }
 }
 
+/// The states of `column`, and with each one those from which epsilon transitions lead to it. The only error is running out of
+/// memory.
+pub(crate) fn wanted_next(
+    alloc: Global,
+    automaton: &Tabled,
+    reversed: &Turned,
+    all: &StateSet,
+    sym: u32,
+    sets: &[Known],
+    others: &[Known],
+    arity: usize,
+    wanted: &StateSet,
+) -> Result<StateSet, AllocError>
+    requires all { all.now ≡ automaton.now.states }
+    requires reverse { IsReverse automaton.now reversed.now }
+    requires count { arity + 1 < 2 ^ 64 }
+    ensures { IfOk result (AreWantedNext automaton.now reversed.now sym sets.now others.now arity wanted.now) }
+{
+    let column = column(
+        alloc, automaton, reversed, all, sym, sets, others, arity, wanted,
+    )?;
+    reversed.closed(column)
+}
+
 /// States among which is each one that stands as the next argument in a transition of the symbol with so many arguments to a
 /// wanted state, behind first arguments from these sets, where the arguments from it on are from the others. Where there are no
 /// first ones, and fewer states are wanted than the symbol has transitions, these are looked up by their targets. The only
 /// error is running out of memory.
-pub(crate) fn column(
+fn column(
     alloc: Global,
     automaton: &Tabled,
     reversed: &Turned,

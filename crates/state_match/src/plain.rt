@@ -1,5 +1,6 @@
 //! Automata that runs are looked up in: one without epsilon transitions for plain runs, and one with them turned round.
-ghost use Rattle.std.specs.Prelude.{◌≡◌, ℕ, Bool, map, IfOk};
+ghost use Rattle.std.specs.Prelude.{◌≡◌, ℕ, Bool, map, IfOk, OnOk};
+ghost use Rattle.ta_core.specs.TreeAutomaton.{bare};
 ghost use Rattle.state_match.specs.Rows.{IsReverse, RunsFor, turn, turn_row};
 
 use ranked_terms::Seq;
@@ -23,11 +24,22 @@ pub(crate) fn reversed(alloc: Global, automaton: &Automaton) -> Result<Automaton
     ensures { IfOk result (λ reversed. IsReverse automaton.now reversed) }
 {
     let mut reversed = Automaton::with_states(alloc, automaton.next(), automaton.states())?;
-    let turned = turned(alloc, automaton.eps())?;
-    let rows = turned_rows(alloc, automaton.trans())?;
-    reversed.add_all_eps(turned)?;
-    reversed.add_all_trans(rows)?;
+    add_turned(alloc, automaton, &mut reversed)?;
     Ok(reversed)
+}
+
+/// Adds all transitions, turned round, to an automaton that has just the states. The only error is running out of memory.
+fn add_turned(
+    alloc: Global,
+    automaton: &Automaton,
+    reversed: &mut Automaton,
+) -> Result<(), AllocError>
+    requires { reversed.old ≡ bare automaton.now.next automaton.now.states }
+    ensures { OnOk result (IsReverse automaton.now reversed.new) }
+{
+    reversed.add_all_eps(turned(alloc, automaton.eps())?)?;
+    reversed.add_all_trans(turned_rows(alloc, automaton.trans())?)?;
+    Ok(())
 }
 
 /// The pairs turned round. The only error is running out of memory.

@@ -51,11 +51,7 @@ pub(crate) fn walk<N: Narrowed, V: Groups>(
         ⊎ TookUpTo V.took V.broke (N.matches rest.now) assignment.old.items visitor.old visitor.new) }
 {
     if more == 0 {
-        let states = rest.states()?;
-        if states.as_slice().is_empty() {
-            return Ok(true);
-        }
-        return visitor.take(assignment.as_slice(), states.as_slice());
+        return take_whole(rest, assignment.as_slice(), visitor);
     }
     let candidates = rest.candidates()?;
     for state in candidates.as_slice() {
@@ -69,4 +65,27 @@ pub(crate) fn walk<N: Narrowed, V: Groups>(
         }
     }
     Ok(true)
+}
+
+/// As `walk`, where no variable is left: there is one assignment at most.
+fn take_whole<N: Narrowed, V: Groups>(
+    rest: &N,
+    assignment: &[u32],
+    visitor: &mut V,
+) -> Result<bool, AllocError>
+    requires long { (σ : List ℕ) (q : ℕ) → N.matches rest.now σ q → length σ ≡ 0 }
+    requires short { length assignment.now ≤ max_variables }
+    ensures whole { IfOk result (λ on. IsTrue on →
+        TookAll V.took (N.matches rest.now) assignment.now visitor.old visitor.new) }
+    ensures ended { IfOk result (λ on. IsTrue (not on) →
+        TookUpTo V.took V.ended (N.matches rest.now) assignment.now visitor.old visitor.new) }
+    ensures err { OnErr result (TookFirst V.took (N.matches rest.now) assignment.now visitor.old visitor.new
+        ⊎ TookUpTo V.took V.broke (N.matches rest.now) assignment.now visitor.old visitor.new) }
+{
+    let found = rest.states()?;
+    let states = found.as_slice();
+    if states.is_empty() {
+        return Ok(true);
+    }
+    visitor.take(assignment, states)
 }

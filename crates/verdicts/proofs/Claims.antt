@@ -1,5 +1,5 @@
 -- The answer for a specification: that its text is a certificate, and what it shows.
-use Rattle.std.proofs.Common.{◌≡◌, ℕ, ◌+◌, ◌≤◌, IsTrue, ◌↔◌, Bool, List, [], ◌∷◌, ◌++◌, map, take, length, All, Contains, sym, ap, subst, ◌∙◌, arith}
+use Rattle.std.proofs.Common.{◌≡◌, ℕ, ◌≤◌, IsTrue, ◌↔◌, Bool, List, [], ◌∷◌, ◌++◌, map, take, length, All, Contains, refl, sym, ap, subst, ◌∙◌, arith}
 use Rattle.std.proofs.lemmas.List.{length-take-le, get_or-take, map-append}
 use Rattle.std.proofs.lemmas.List.FromFn.{length-range_with_len}
 use Rattle.ranked_terms.specs.SignatureRules.{IsSignature}
@@ -17,6 +17,7 @@ use Rattle.derive_search.specs.Search.{SearchAnswer}
 use Rattle.derive_search.specs.declared.bounded.SearchEnd.TheVariants as search
 use Rattle.completion.specs.Stages.{Ends}
 use Rattle.completion.specs.Standing.{HasPlaces}
+use Rattle.completion.specs.declared.end.StageEnd.{StageEnd}
 use Rattle.completion.specs.declared.end.StageEnd.TheVariants as end
 use Rattle.cert_text.specs.Words.{text_of}
 use Rattle.cert_text.specs.Lines as line
@@ -24,9 +25,11 @@ use Rattle.cert_text.specs.Lines.{Line, words_of}
 use Rattle.cert_text.specs.Certificates.{claim_lines, path_lines, IsClaim}
 use Rattle.cert_text.specs.declared.outcome.Mark.{Mark}
 use Rattle.cert_text.specs.declared.outcome.Reason.{Reason}
+use Rattle.cert_text.specs.declared.outcome.Reason.TheVariants as reason
+use Rattle.cert_text.specs.declared.outcome.Outcome.{Outcome}
 use Rattle.cert_text.specs.declared.outcome.Outcome.TheVariants as outcome
 use Rattle.verdicts.specs.Verdicts.{IsPrecise, Verdict, search_end, stage_end}
-use Rattle.verdicts.specs.Answers.{IsAnswer, IsInOrder}
+use Rattle.verdicts.specs.Answers.{IsAnswer, IsInOrder, Tells}
 use Rattle.verdicts.proofs.Over.{stage_is_over}
 use Rattle.verdicts.proofs.Ends.{found, few_rounds, reason_over}
 use Rattle.verdicts.proofs.Paths.{Laws, path, path_over}
@@ -97,3 +100,17 @@ pub unsettled : (spec : Spec) (options : Options) (m : Mark) → SearchAnswer sp
     IsAnswer spec options (outcome.Undecided why m)
 unsettled spec options m searched A h why ends =
     record { verdict = Verdict.undecided A h searched ends; shows = tt; checkable = tt; over = reason_over spec options A h why ends }
+
+-- ---- what an end says
+
+module _ (keeps : ContainedKeepsAccepted) (reached : ClosedAcceptsReached) (spec : Spec) (options : Options) (are : All IsRule spec.rules) (m : Mark) (searched : SearchAnswer spec options (search_end m))
+    (A : TreeAutomaton) (h : List ℕ) (is_kept : IsKept A) (order : IsInOrder A) (places : HasPlaces spec A h) where
+  pub answered : (e : StageEnd) → Ends spec options A h e → ((i : ℕ) → e ≡ end.Closed i → IsAccepted spec A (take spec.initial.next h)) →
+      ((i : ℕ) → e ≡ end.Closed i → (t : Term) → Reachable spec t → Forbidden spec t → ⊥) → (o : Outcome) → Tells spec m A h e o → IsAnswer spec options o
+  answered (end.Closed i) ends accepted safe o told =
+      subst (IsAnswer spec options) (sym told.is)
+      (claimed keeps reached spec options are m searched A h i ends is_kept order places told.precise told.noted (accepted i refl) (safe i refl))
+  answered (end.Meets n l) ends accepted safe o told = subst (IsAnswer spec options) (sym told) (unsettled spec options m searched A h (reason.Meets n l) ends)
+  answered (end.Rounds n) ends accepted safe o told = subst (IsAnswer spec options) (sym told) (unsettled spec options m searched A h (reason.Rounds n) ends)
+  answered (end.Pairs n) ends accepted safe o told = subst (IsAnswer spec options) (sym told) (unsettled spec options m searched A h (reason.Pairs n) ends)
+  answered (end.States n) ends accepted safe o told = subst (IsAnswer spec options) (sym told) (unsettled spec options m searched A h (reason.States n) ends)

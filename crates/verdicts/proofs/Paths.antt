@@ -1,5 +1,5 @@
 -- What holds of a derivation that the search finds: its terms are reached within the limits, and so small.
-use Rattle.std.proofs.Common.{◌≡◌, ℕ, zero, suc, ◌+◌, ◌-◌, ◌<◌, ◌≤◌, ◌&&◌, IsTrue, List, [], ◌∷◌, ◌++◌, map, sum, length, get_or, slice_get, option_map, Some, Option, None, All, refl, sym, ap, subst, ◌∙◌, inr, ⊎_elim, arith, length-append}
+use Rattle.std.proofs.Common.{◌≡◌, ℕ, zero, suc, ◌<◌, ◌≤◌, ◌&&◌, IsTrue, List, [], ◌∷◌, ◌++◌, map, sum, length, get_or, slice_get, option_map, Some, Option, None, All, refl, sym, ap, subst, ◌∙◌, inr, ⊎_elim, arith, length-append}
 use Rattle.std.specs.List.{list_all}
 use Rattle.std.specs.Cmp.{first_so, second_so}
 use Rattle.std.proofs.lemmas.Bool.{and_from, cases_lt}

@@ -7,7 +7,7 @@ ghost use Rattle.cert_text.specs.Certificates.{outcome_is_over};
 ghost use Rattle.verdicts.specs.Verdicts.{IsPrecise, Verdict, search_end};
 ghost use Rattle.verdicts.specs.Shown.{Shows, IsCheckable};
 ghost use Rattle.verdicts.specs.Completing.{Completes};
-ghost use Rattle.verdicts.specs.Answers.{IsAnswer, IsClaimOf, IsInOrder};
+ghost use Rattle.verdicts.specs.Answers.{IsAnswer, IsClaimOf, IsInOrder, Tells};
 
 use cert_text::{Mark, Outcome, Reason, cert_bytes};
 use completion::{Core, StageEnd, stages};
@@ -75,8 +75,22 @@ fn completed(
     let (core, end) = stages(alloc, spec, options)?;
     is_in_order(core.automaton());
     let _ = core.map();
+    told(alloc, spec, &core, end, search)
+}
+
+// What the end of completion at this stage says, where the search has ended so. The only error is running out of memory.
+fn told(
+    alloc: Global,
+    spec: &Spec,
+    core: &Core,
+    end: StageEnd,
+    search: Mark,
+) -> Result<Outcome, AllocError>
+    requires { core.now.spec ≡ spec.now }
+    ensures { IfOk result (Tells spec.now search core.now.automaton core.now.places end) }
+{
     match end {
-        StageEnd::Closed(rounds) => claim(alloc, spec, &core, rounds),
+        StageEnd::Closed(rounds) => claim(alloc, spec, core, rounds),
         StageEnd::Meets(stage, least) => {
             let reason = Reason::Meets(stage, least);
             Ok(Outcome::Undecided { reason, search })

@@ -18,7 +18,7 @@ use Rattle.list_laws.proofs.Members.{all_from_members}
 use Rattle.ta_core.specs.lemmas.RunsLaws.{run_of_app, run_of_state, run_of_plain, plain_of_run}
 use Rattle.ta_core.specs.lemmas.RunStates.{AreExact, exact_more, runs_of_app, entered_and_reached}
 use Rattle.list_laws.proofs.Zips.{zip_length}
-use Rattle.state_match.specs.Rows.{FitsFrom, IsNextAt, IsClosedBack, IsFirst, IsFirstOf, IsReverse, turn, turn_row, RunsFor}
+use Rattle.state_match.specs.Rows.{AreWantedNext, FitsFrom, IsNextAt, IsClosedBack, IsFirst, IsFirstOf, IsReverse, turn, turn_row, RunsFor}
 use Rattle.state_match.specs.Belows.{RunsInto}
 use Rattle.state_match.proofs.members.Members.{here, there, map_has, map_had}
 use Rattle.state_match.proofs.members.Belows.{Into, into_given, into_runs, zip_from}
@@ -231,10 +231,10 @@ module _ (A : TreeAutomaton) (vars bound : List ℕ) where
       let run : Runs A (State s) q = subst (λ c. Runs A c q) (assigned_var (state_in vars (bound ++ s ∷ rest)) v ∙ ap State same) r in
       subst (λ xs. Contains xs s) (sym e) (closed s q (run_of_state s q run).1 want)
 
-  pub narrow_app : (f : ℕ) (items args : List Pattern) (i arity : ℕ) (arg : Pattern) (sets others belows : List (List ℕ)) (wanted column back : List ℕ) (B : TreeAutomaton) → IsReverse A B → items ≡ args → i < length items → arg ≡ get_or items i arg → arity ≡ length args →
-      AreSets (take i items) sets → others ≡ drop i belows → AllZip (RunsInto A) args belows → ((x : ℕ) → IsNextAt A.trans f sets others arity wanted x → Contains column x) → ((q : ℕ) → Contains back q ↔ ReachedFrom B column q) →
+  pub narrow_app : (f : ℕ) (items args : List Pattern) (i arity : ℕ) (arg : Pattern) (sets others belows : List (List ℕ)) (wanted back : List ℕ) (B : TreeAutomaton) → IsReverse A B → items ≡ args → i < length items → arg ≡ get_or items i arg → arity ≡ length args →
+      AreSets (take i items) sets → others ≡ drop i belows → AllZip (RunsInto A) args belows → AreWantedNext A B f sets others arity wanted back →
       (states : List ℕ) → Narrows back arg states → Narrows wanted (App' f args) states
-  narrow_app f items args i arity arg sets others belows wanted column back B v e l is long exact from under members all states inner closed s rest q want r =
+  narrow_app f items args i arity arg sets others belows wanted back B v e l is long exact from under known states inner closed s rest q want r =
       let g : Pattern → Config = assigned (state_in vars (bound ++ s ∷ rest)) in
       let parts' : items ≡ take i items ++ arg ∷ drop (i + 1) items = sym (take-append-drop i items) ∙ ap (λ ps. take i items ++ ps) (drop_more items i arg l ∙ (λ k. sym is k ∷ drop (i + 1) items)) in
       let cs : map g args ≡ map g (take i items) ++ g arg ∷ map g (drop (i + 1) items) = ap (map g) (sym e ∙ parts') ∙ map-append g (take i items) (arg ∷ drop (i + 1) items) in
@@ -243,9 +243,9 @@ module _ (A : TreeAutomaton) (vars bound : List ℕ) where
       (subst (AllZip (RunsInto A) (drop i items)) (sym from) (zip_from (RunsInto A) i items belows (subst (λ ps. AllZip (RunsInto A) ps belows) (sym e) under)))) in
       let count : arity ≡ length (map g (take i items) ++ g arg ∷ map g (drop (i + 1) items)) = long ∙ (sym (mapped_length g args) ∙ ap (λ (xs : List Config). length xs) cs) in
       let run : Runs A (App f (map g (take i items) ++ g arg ∷ map g (drop (i + 1) items))) q = subst (λ c. Runs A c q) (assigned_app (state_in vars (bound ++ s ∷ rest)) f args ∙ ap (App f) cs) r in
-      let h = column_has A f q (map g (take i items)) (g arg) (map g (drop (i + 1) items)) sets others wanted column closed (exact (s ∷ rest)) into
-      (λ x. subst (λ n. IsNextAt A.trans f sets others n wanted x → Contains column x) count (members x)) want run in
-      inner (closed_back A B v column back all) s rest h.0 (in_back B column back all h.0 h.1) h.2
+      let h = column_has A f q (map g (take i items)) (g arg) (map g (drop (i + 1) items)) sets others wanted known.column closed (exact (s ∷ rest)) into
+      (λ x. subst (λ n. IsNextAt A.trans f sets others n wanted x → Contains known.column x) count (known.next x)) want run in
+      inner (closed_back A B v known.column back known.closed) s rest h.0 (in_back B known.column back known.closed h.0 h.1) h.2
 
   -- ---- the first argument of the whole pattern
 
@@ -255,11 +255,11 @@ module _ (A : TreeAutomaton) (vars bound : List ℕ) where
       inner known.closed s rest x.0 x.1 x.2
 
 -- what is wanted of the first argument
-pub first_is : (A B : TreeAutomaton) → IsReverse A B → (p : Pattern) (sym' : ℕ) (args : List Pattern) (count : ℕ) (sets others : List (List ℕ)) (wanted column back : List ℕ) → p ≡ App' sym' args → count ≡ length args → sets ≡ [] →
+pub first_is : (A B : TreeAutomaton) → IsReverse A B → (p : Pattern) (sym' : ℕ) (args : List Pattern) (count : ℕ) (sets others : List (List ℕ)) (wanted back : List ℕ) → p ≡ App' sym' args → count ≡ length args → sets ≡ [] →
     ((f : ℕ) (args : List Pattern) → p ≡ App' f args → AllZip (RunsInto A) args others) →
-    ((x : ℕ) → IsNextAt A.trans sym' sets others count wanted x → Contains column x) → ((q : ℕ) → Contains back q ↔ ReachedFrom B column q) → IsFirst A wanted p back
-first_is A B v p sym' args count sets others wanted column back is long empty under members exact = record {
-  closed = closed_back A B v column back exact;
+    AreWantedNext A B sym' sets others count wanted back → IsFirst A wanted p back
+first_is A B v p sym' args count sets others wanted back is long empty under known = record {
+  closed = closed_back A B v known.column back known.closed;
   has = λ arg first closed σ q want r.
       let f = first.symbol in
       let rest = first.others in
@@ -269,10 +269,10 @@ first_is A B v p sym' args count sets others wanted column back is long empty un
       let as_many : length (g arg ∷ map g rest) ≡ length args = ap (λ (cs : List Config). length cs) both.1 ∙ length-map args g in
       let enough : count ≡ length (g arg ∷ map g rest) = long ∙ sym as_many in
       let run : Runs A (App f (g arg ∷ map g rest)) q = subst (λ c. Runs A c q) (ap g first.is ∙ assigned_app σ f (arg ∷ rest)) r in
-      let h = column_has A f q [] (g arg) (map g rest) [] others wanted column closed tt (into_given A σ (arg ∷ rest) others (under f (arg ∷ rest) first.is))
-      (λ x m. members x (subst (λ ss. IsNextAt A.trans sym' ss others count wanted x) (sym empty) (subst (λ k. IsNextAt A.trans sym' [] others k wanted x) (sym enough)
+      let h = column_has A f q [] (g arg) (map g rest) [] others wanted known.column closed tt (into_given A σ (arg ∷ rest) others (under f (arg ∷ rest) first.is))
+      (λ x m. known.next x (subst (λ ss. IsNextAt A.trans sym' ss others count wanted x) (sym empty) (subst (λ k. IsNextAt A.trans sym' [] others k wanted x) (sym enough)
       (subst (λ g. IsNextAt A.trans g [] others (length (assigned σ arg ∷ map (assigned σ) rest)) wanted x) both.0 m)))) want run in
-      (h.0, in_back B column back exact h.0 h.1, h.2);
+      (h.0, in_back B known.column back known.closed h.0 h.1, h.2);
 }
 
 -- ---- automata that runs are looked up in

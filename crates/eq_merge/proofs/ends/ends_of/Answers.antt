@@ -1,63 +1,75 @@
-use Rattle.std.proofs.Common.{◌≡◌, ◌≤◌, ◌↔◌, ℕ, List, length, All, Contains, sym, ap, subst, ◌∙◌, ⊎_elim, inl, inr}
-use Rattle.list_laws.specs.Lists.{IsUnion}
+use Rattle.std.proofs.Common.{◌≡◌, ◌≤◌, ◌↔◌, ◌⊎◌, ℕ, List, length, All, Contains, sym, ap, subst, ◌∙◌, ⊎_elim, inl, inr}
 use Rattle.list_laws.proofs.Members.{none, all_from_members}
 use Rattle.ranked_terms.specs.Terms.{variables_of}
+use Rattle.ranked_terms.specs.declared.term.Pattern.{Pattern}
 use Rattle.trs_rules.specs.Rules.{RewriteEquation}
 use Rattle.ta_core.specs.declared.trans.Trans.{Trans}
-use Rattle.ta_core.specs.TreeAutomaton.{TreeAutomaton, IsSound, IsTransOf, bare}
+use Rattle.ta_core.specs.TreeAutomaton.{TreeAutomaton, bare}
 use Rattle.eq_merge.specs.Ends.{AreShared, AreEnds, EndsAt}
-use Rattle.eq_merge.proofs.finding.Equating.{few_left, few_right, end_states}
+use Rattle.eq_merge.proofs.finding.Equating.{few_left, few_right}
 use Rattle.eq_merge.proofs.ends.ends_of.Goals as goal
 
--- the ends of a side lead from states to states
-of_side : {A : TreeAutomaton} (e : RewriteEquation) (shared : List ℕ) (side : ℕ) (ends : List Trans) (states : List ℕ) → IsSound A → states ≡ A.states →
-    (p : _) → ((v : ℕ) → Contains shared v → Contains (variables_of p) v) → ((t : Trans) → Contains ends t ↔ ((t.sym ≡ side) × EndsAt A p shared t.args t.to)) → All (IsTransOf states) ends
-of_side {A = A} e shared side ends states sound is p has exact =
-    subst (λ xs. All (IsTransOf xs) ends) (sym is) (all_from_members (IsTransOf A.states) ends (λ t c. end_states sound p shared has t ((exact t).0 c).1))
+-- the ends of a side come to those that are there
+abbrev AddsSide : TreeAutomaton → ℕ → Pattern → List ℕ → List Trans → List Trans → Type 0
+AddsSide A side p shared old new = (t : Trans) → Contains new t ↔ (Contains old t ⊎ ((t.sym ≡ side) × EndsAt A p shared t.args t.to))
+
+-- told of the same side and the same variables
+same_side : (A : TreeAutomaton) (side : ℕ) (p p' : Pattern) (s s' : List ℕ) (old new : List Trans) → p ≡ p' → s ≡ s' → AddsSide A side p s old new → AddsSide A side p' s' old new
+same_side A side p p' s s' old new e f h t = subst (λ x. Contains new t ↔ (Contains old t ⊎ ((t.sym ≡ side) × EndsAt A p' x t.args t.to))) f
+    (subst (λ x. Contains new t ↔ (Contains old t ⊎ ((t.sym ≡ side) × EndsAt A x s t.args t.to))) e (h t))
+
+-- the variables that are shared stand in the side
+all_shared : (p p' : Pattern) (s s' : List ℕ) → p ≡ p' → s ≡ s' → ((v : ℕ) → Contains s' v → Contains (variables_of p') v) → All (Contains (variables_of p)) s
+all_shared p p' s s' e f has = subst (λ xs. All (Contains (variables_of p)) xs) (sym f) (subst (λ x. All (Contains (variables_of x)) s') (sym e) (all_from_members (Contains (variables_of p')) s' has))
 
 -- the ends of both sides
-both_sides : (A : TreeAutomaton) (e : RewriteEquation) (shared : List ℕ) (left right : List Trans) (B C D : TreeAutomaton) → AreShared e shared →
-    ((t : Trans) → Contains left t ↔ ((t.sym ≡ 0) × EndsAt A e.left shared t.args t.to)) → ((t : Trans) → Contains right t ↔ ((t.sym ≡ 1) × EndsAt A e.right shared t.args t.to)) →
-    B ≡ bare A.next A.states → IsUnion B.trans left C.trans → C ≡ record B { trans = C.trans } → IsUnion C.trans right D.trans → D ≡ record C { trans = D.trans } → AreEnds A e D
-both_sides A e shared left right B C D are l r b u c w d = record {
+both_sides : (A : TreeAutomaton) (e : RewriteEquation) (shared : List ℕ) (B C D : TreeAutomaton) → AreShared e shared → B ≡ bare A.next A.states →
+    AddsSide A 0 e.left shared B.trans C.trans → C ≡ record B { trans = C.trans } → AddsSide A 1 e.right shared C.trans D.trans → D ≡ record C { trans = D.trans } → AreEnds A e D
+both_sides A e shared B C D are b u c w d = record {
   shared = shared;
   are_shared = are;
   next = ap (λ (X : TreeAutomaton). X.next) d ∙ (ap (λ (X : TreeAutomaton). X.next) c ∙ ap (λ (X : TreeAutomaton). X.next) b);
   exact = λ t. (
     λ i. ⊎_elim
-        (λ j. ⊎_elim (λ k. absurd (none t (subst (λ ts. Contains ts t) (ap (λ (X : TreeAutomaton). X.trans) b) k))) (λ k. inl ((l t).0 k)) ((u t).0 j))
-        (λ j. inr ((r t).0 j)) ((w t).0 i),
-    λ h. (w t).1 (⊎_elim (λ x. inl ((u t).1 (inr ((l t).1 x)))) (λ x. inr ((r t).1 x)) h),
+        (λ j. ⊎_elim (λ k. absurd (none t (subst (λ ts. Contains ts t) (ap (λ (X : TreeAutomaton). X.trans) b) k))) (λ k. inl k) ((u t).0 j))
+        (λ j. inr j) ((w t).0 i),
+    λ h. (w t).1 (⊎_elim (λ x. inl ((u t).1 (inr x))) (λ x. inr x) h),
   );
 }
 
-pub side_ends-requires-clause-few : goal.side_ends-requires-clause-few
-side_ends-requires-clause-few c = subst (λ p. length (variables_of p) ≤ 16) (sym c.left.ensures.side) (few_left c.args.equation.now c.left.ensures.equation)
+pub add_side-requires-clause-few : goal.add_side-requires-clause-few
+add_side-requires-clause-few c = subst (λ p. length (variables_of p) ≤ 16) (sym c.left.ensures.side) (few_left c.args.equation.now c.left.ensures.equation)
 
-pub side_ends-requires-2-clause-few : goal.side_ends-requires-2-clause-few
-side_ends-requires-2-clause-few c = subst (λ p. length (variables_of p) ≤ 16) (sym c.right.ensures.side) (few_right c.args.equation.now c.left.ensures.equation)
+pub add_side-requires-clause-shared : goal.add_side-requires-clause-shared
+add_side-requires-clause-shared c =
+    all_shared c.left.result.now c.args.equation.now.left c.as_slice.result.now c.in_ok-shared.shared c.left.ensures.side c.as_slice.ensures (λ v i. ((c.in_ok-shared.ensures v).0 i).0)
 
-pub add_all_trans-requires : goal.add_all_trans-requires
-add_all_trans-requires c =
-    of_side c.args.equation.now c.in_ok-shared.shared 0 c.in_ok-left.left c.in_ok-ends.ends.states (subst IsSound c.automaton-automaton.ensures c.next.ensures.sound)
-    (ap (λ (X : TreeAutomaton). X.states) c.in_ok-ends.ensures ∙ (c.states.ensures.value ∙ ap (λ (X : TreeAutomaton). X.states) c.automaton-automaton.ensures)) c.args.equation.now.left (λ v i. ((c.in_ok-shared.ensures v).0 i).0)
-    (λ t. subst (λ s. Contains c.in_ok-left.left t ↔ ((t.sym ≡ 0) × EndsAt c.args.matcher.now c.args.equation.now.left s t.args t.to)) c.as_slice.ensures
-    (subst (λ p. Contains c.in_ok-left.left t ↔ ((t.sym ≡ 0) × EndsAt c.args.matcher.now p c.as_slice.result.now t.args t.to)) c.left.ensures.side (c.in_ok-left.ensures t)))
+pub add_side-requires-clause-states : goal.add_side-requires-clause-states
+add_side-requires-clause-states c =
+    ap (λ (X : TreeAutomaton). X.states) c.in_ok-ends.ensures ∙ (c.states.ensures.value ∙ ap (λ (X : TreeAutomaton). X.states) c.automaton-automaton.ensures)
 
-pub add_all_trans-requires-2 : goal.add_all_trans-requires-2
-add_all_trans-requires-2 c =
-    of_side c.args.equation.now c.in_ok-shared.shared 1 c.in_ok-right.right c.add_all_trans.new.self.states (subst IsSound c.automaton-automaton.ensures c.next.ensures.sound)
-    (ap (λ (X : TreeAutomaton). X.states) c.in_ok-add_all_trans.ensures.rest ∙ (ap (λ (X : TreeAutomaton). X.states) c.in_ok-ends.ensures ∙ (c.states.ensures.value ∙ ap (λ (X : TreeAutomaton). X.states) c.automaton-automaton.ensures)))
-    c.args.equation.now.right (λ v i. ((c.in_ok-shared.ensures v).0 i).1)
-    (λ t. subst (λ s. Contains c.in_ok-right.right t ↔ ((t.sym ≡ 1) × EndsAt c.args.matcher.now c.args.equation.now.right s t.args t.to)) c.as_slice-2.ensures
-    (subst (λ p. Contains c.in_ok-right.right t ↔ ((t.sym ≡ 1) × EndsAt c.args.matcher.now p c.as_slice-2.result.now t.args t.to)) c.right.ensures.side (c.in_ok-right.ensures t)))
+pub add_side-requires-2-clause-few : goal.add_side-requires-2-clause-few
+add_side-requires-2-clause-few c = subst (λ p. length (variables_of p) ≤ 16) (sym c.right.ensures.side) (few_right c.args.equation.now c.left.ensures.equation)
+
+pub add_side-requires-2-clause-shared : goal.add_side-requires-2-clause-shared
+add_side-requires-2-clause-shared c =
+    all_shared c.right.result.now c.args.equation.now.right c.as_slice-2.result.now c.in_ok-shared.shared c.right.ensures.side c.as_slice-2.ensures (λ v i. ((c.in_ok-shared.ensures v).0 i).1)
+
+pub add_side-requires-2-clause-states : goal.add_side-requires-2-clause-states
+add_side-requires-2-clause-states c =
+    ap (λ (X : TreeAutomaton). X.states) c.in_ok-add_side.ensures.rest ∙
+    (ap (λ (X : TreeAutomaton). X.states) c.in_ok-ends.ensures ∙ (c.states.ensures.value ∙ ap (λ (X : TreeAutomaton). X.states) c.automaton-automaton.ensures))
 
 pub returns : goal.returns
 returns c =
-    both_sides c.args.matcher.now c.args.equation.now c.in_ok-shared.shared c.in_ok-left.left c.in_ok-right.right c.in_ok-ends.ends c.add_all_trans.new.self c.add_all_trans-2.new.self c.in_ok-shared.ensures
-    (λ t. subst (λ s. Contains c.in_ok-left.left t ↔ ((t.sym ≡ 0) × EndsAt c.args.matcher.now c.args.equation.now.left s t.args t.to)) c.as_slice.ensures
-    (subst (λ p. Contains c.in_ok-left.left t ↔ ((t.sym ≡ 0) × EndsAt c.args.matcher.now p c.as_slice.result.now t.args t.to)) c.left.ensures.side (c.in_ok-left.ensures t)))
-    (λ t. subst (λ s. Contains c.in_ok-right.right t ↔ ((t.sym ≡ 1) × EndsAt c.args.matcher.now c.args.equation.now.right s t.args t.to)) c.as_slice-2.ensures
-    (subst (λ p. Contains c.in_ok-right.right t ↔ ((t.sym ≡ 1) × EndsAt c.args.matcher.now p c.as_slice-2.result.now t.args t.to)) c.right.ensures.side (c.in_ok-right.ensures t)))
+    let A = c.args.matcher.now in
+    let e = c.args.equation.now in
+    let B = c.in_ok-ends.ends in
+    let C = c.add_side.new.ends in
+    let D = c.add_side-2.new.ends in
+    both_sides A e c.in_ok-shared.shared B C D c.in_ok-shared.ensures
     (c.in_ok-ends.ensures ∙ ((λ i. bare (c.next.ensures.value i) (c.states.ensures.value i)) ∙ ap (λ (X : TreeAutomaton). bare X.next X.states) c.automaton-automaton.ensures))
-    c.in_ok-add_all_trans.ensures.members c.in_ok-add_all_trans.ensures.rest c.in_ok-add_all_trans-2.ensures.members c.in_ok-add_all_trans-2.ensures.rest
+    (same_side A 0 c.left.result.now e.left c.as_slice.result.now c.in_ok-shared.shared B.trans C.trans c.left.ensures.side c.as_slice.ensures c.in_ok-add_side.ensures.members)
+    c.in_ok-add_side.ensures.rest
+    (same_side A 1 c.right.result.now e.right c.as_slice-2.result.now c.in_ok-shared.shared C.trans D.trans c.right.ensures.side c.as_slice-2.ensures c.in_ok-add_side-2.ensures.members)
+    c.in_ok-add_side-2.ensures.rest

@@ -1,11 +1,10 @@
-use Rattle.std.proofs.Common.{not, ℕ, List, ◌==◌, length, IsTrue, nat_cmp, [], ◌∷◌, ◌++◌, map, get_or, refl, subst, sym, ap, ◌∙◌, ◌↔◌, inl, inr, ⊎_elim}
+use Rattle.std.proofs.Common.{not, ℕ, List, IfOk, OnErr, IsTrue, nat_cmp, [], ◌∷◌, ◌++◌, map, get_or, refl, subst, sym, ap, ◌∙◌, ◌↔◌, ◌⊎◌, inl, inr, ⊎_elim}
 use Rattle.std.specs.List.{Contains}
 use Rattle.std.specs.List.Sorted.{IsStrictlySortedBy}
-use Rattle.std.proofs.lemmas.Result.{IfOk-weaker, on_err_weaker}
 use Rattle.state_match.specs.Visits.{GoneThrough}
-use Rattle.state_match.specs.Groups.{after, group_of, TookAll, TookUpTo}
-use Rattle.state_match.proofs.grouping.GroupLists.{pushed, popped, IfSome-at_some, IfNone-at_none, passed_none, passed_all, none_left, one_left, whole_one, passed_by, passed_with, through_after}
-use Rattle.state_match.proofs.grouping.Fronts.{on_err_from, stopped_before, stopped_in, ended_in, one_over, took_none}
+use Rattle.state_match.specs.Groups.{after, TookAll, TookFirst, TookUpTo}
+use Rattle.state_match.proofs.grouping.GroupLists.{pushed, popped, IfSome-at_some, IfNone-at_none, passed_none, passed_all, passed_by, passed_with, through_after}
+use Rattle.state_match.proofs.grouping.Fronts.{on_err_from, stopped_before, stopped_in, ended_in, took_none}
 use Rattle.state_match.proofs.walk.+walk.Goals as goal
 use Rattle.state_match.proofs.walk.+walk.Goals.{in-Some+in_ok-push+in_ok-on+else-not-on, in_default}
 
@@ -15,7 +14,7 @@ loop-state-init g t c = record { kept = refl; gone = record { groups = []; are =
 pub loop-state-preserved : goal.loop-state-preserved
 loop-state-preserved g t c =
     let gone = c.loop-state.invariant.gone in
-    elim c.match-branch-4.branch [
+    elim c.match-branch-3.branch [
       | in-Some+in_ok-push+in_ok-on+else-not-on w ↦
           let inner = w.in_ok-on.ensures.whole w.if-not-on.false in
           let longer = pushed _ w.in_ok-push.ensures.items c.loop-state.invariant.kept in
@@ -52,52 +51,27 @@ returns-clause-whole g t c =
       gone = gone.gone;
     }
 
-pub returns-then-is_empty-clause-whole : goal.returns-then-is_empty-clause-whole
-returns-then-is_empty-clause-whole g t c = λ yes. record {
-  groups = [];
-  are = none_left c.args.more c.as_slice.result.now c.if-more-eq0.true (sym c.is_empty.ensures ∙ c.if-is_empty.true) c.requires.long
-      (λ q. subst (λ xs. Contains xs q ↔ g.N.Narrowed.matches c.args.rest.now [] q) (sym c.as_slice.ensures.value) (c.in_ok-states.ensures q));
-  gone = GoneThrough.none;
-}
+pub take_whole-requires-clause-long : goal.take_whole-requires-clause-long
+take_whole-requires-clause-long g t c = λ σ q m. c.requires.long σ q m ∙ c.if-more-eq0.true
 
 pub returns-then-more-eq0-clause-whole : goal.returns-then-more-eq0-clause-whole
 returns-then-more-eq0-clause-whole g t c =
-    IfOk-weaker c.take.result _ (λ on. IsTrue on → TookAll g.V.Groups.took (g.N.Narrowed.matches c.args.rest.now) c.args.assignment.now.items c.args.visitor.now c.take.new.self)
-    (λ on h yes. one_left g.V.Groups.took c.args.visitor.now c.take.new.self c.args.assignment.now.items c.as_slice-then-more-eq0-2.result.now
-    (whole_one c.args.more c.as_slice-then-more-eq0-2.result.now c.if-more-eq0.true
-    (ap (λ xs. length xs == 0) (c.as_slice-then-more-eq0-2.ensures.value ∙ sym c.as_slice.ensures.value) ∙ sym c.is_empty.ensures ∙ c.if-is_empty.false)
-    (subst (IsStrictlySortedBy nat_cmp) (sym c.as_slice-then-more-eq0-2.ensures.value) c.as_slice-then-more-eq0-2.ensures.sorted) c.requires.long
-    (λ q. subst (λ xs. Contains xs q ↔ g.N.Narrowed.matches c.args.rest.now [] q) (sym c.as_slice-then-more-eq0-2.ensures.value) (c.in_ok-states.ensures q)))
-    (subst (λ xs. g.V.Groups.took c.args.visitor.now (group_of xs c.as_slice-then-more-eq0-2.result.now) c.take.new.self) c.as_slice-then-more-eq0.ensures.value (h yes)))
-    c.take.ensures.took
+    subst (λ xs. IfOk c.take_whole.result (λ on. IsTrue on → TookAll g.V.Groups.took (g.N.Narrowed.matches c.args.rest.now) xs c.args.visitor.now c.take_whole.new.visitor)) c.as_slice.ensures.value
+    c.take_whole.ensures.whole
 
 pub returns-then-more-eq0-clause-ended : goal.returns-then-more-eq0-clause-ended
 returns-then-more-eq0-clause-ended g t c =
-    IfOk-weaker c.take.result _ (λ on. IsTrue (not on) → TookUpTo g.V.Groups.took g.V.Groups.ended (g.N.Narrowed.matches c.args.rest.now) c.args.assignment.now.items c.args.visitor.now c.take.new.self)
-    (λ on h yes. one_over g.V.Groups.took g.V.Groups.ended c.args.visitor.now c.take.new.self c.args.assignment.now.items c.as_slice-then-more-eq0-2.result.now
-    (whole_one c.args.more c.as_slice-then-more-eq0-2.result.now c.if-more-eq0.true
-    (ap (λ xs. length xs == 0) (c.as_slice-then-more-eq0-2.ensures.value ∙ sym c.as_slice.ensures.value) ∙ sym c.is_empty.ensures ∙ c.if-is_empty.false)
-    (subst (IsStrictlySortedBy nat_cmp) (sym c.as_slice-then-more-eq0-2.ensures.value) c.as_slice-then-more-eq0-2.ensures.sorted) c.requires.long
-    (λ q. subst (λ xs. Contains xs q ↔ g.N.Narrowed.matches c.args.rest.now [] q) (sym c.as_slice-then-more-eq0-2.ensures.value) (c.in_ok-states.ensures q)))
-    (subst (λ xs. g.V.Groups.ended c.args.visitor.now (group_of xs c.as_slice-then-more-eq0-2.result.now) c.take.new.self) c.as_slice-then-more-eq0.ensures.value (h yes)))
-    c.take.ensures.ended
+    subst (λ xs. IfOk c.take_whole.result (λ on. IsTrue (not on) → TookUpTo g.V.Groups.took g.V.Groups.ended (g.N.Narrowed.matches c.args.rest.now) xs c.args.visitor.now c.take_whole.new.visitor))
+    c.as_slice.ensures.value c.take_whole.ensures.ended
 
 pub returns-then-more-eq0-clause-err : goal.returns-then-more-eq0-clause-err
 returns-then-more-eq0-clause-err g t c =
-    on_err_weaker c.take.result
-    (λ h. inr (one_over g.V.Groups.took g.V.Groups.broke c.args.visitor.now c.take.new.self c.args.assignment.now.items c.as_slice-then-more-eq0-2.result.now
-    (whole_one c.args.more c.as_slice-then-more-eq0-2.result.now c.if-more-eq0.true
-    (ap (λ xs. length xs == 0) (c.as_slice-then-more-eq0-2.ensures.value ∙ sym c.as_slice.ensures.value) ∙ sym c.is_empty.ensures ∙ c.if-is_empty.false)
-    (subst (IsStrictlySortedBy nat_cmp) (sym c.as_slice-then-more-eq0-2.ensures.value) c.as_slice-then-more-eq0-2.ensures.sorted) c.requires.long
-    (λ q. subst (λ xs. Contains xs q ↔ g.N.Narrowed.matches c.args.rest.now [] q) (sym c.as_slice-then-more-eq0-2.ensures.value) (c.in_ok-states.ensures q)))
-    (subst (λ xs. g.V.Groups.broke c.args.visitor.now (group_of xs c.as_slice-then-more-eq0-2.result.now) c.take.new.self) c.as_slice-then-more-eq0.ensures.value h)))
-    c.take.ensures.broke
-
-pub returns-in_err-states-clause-err : goal.returns-in_err-states-clause-err
-returns-in_err-states-clause-err g t c = on_err_from c.from_residual.result (inl took_none)
+    subst (λ xs. OnErr c.take_whole.result
+    (TookFirst g.V.Groups.took (g.N.Narrowed.matches c.args.rest.now) xs c.args.visitor.now c.take_whole.new.visitor ⊎ TookUpTo g.V.Groups.took g.V.Groups.broke (g.N.Narrowed.matches c.args.rest.now) xs c.args.visitor.now c.take_whole.new.visitor))
+    c.as_slice.ensures.value c.take_whole.ensures.err
 
 pub returns-in_err-candidates-clause-err : goal.returns-in_err-candidates-clause-err
-returns-in_err-candidates-clause-err g t c = on_err_from c.from_residual-in_err-candidates.result (inl took_none)
+returns-in_err-candidates-clause-err g t c = on_err_from c.from_residual.result (inl took_none)
 
 pub returns-in_err-next-clause-err : goal.returns-in_err-next-clause-err
 returns-in_err-next-clause-err g t c =
