@@ -1,7 +1,9 @@
 //! Subterms at positions.
-ghost use Rattle.std.specs.Prelude.{◌≡◌, ◌↔◌, ◌≤◌, length, drop, Some, IfOk, IsTrue};
+ghost use Rattle.std.specs.Prelude.{◌≡◌, ◌↔◌, ◌≤◌, ◌-◌, ◌∷◌, ◌++◌, length, take, drop, Some, IfOk, IsTrue};
 ghost use Rattle.std.specs.Option.{option_copied};
 ghost use Rattle.ranked_terms.specs.declared.term.Term.{Term as Ground};
+ghost use Rattle.ranked_terms.specs.declared.term.Term.TheViews.{out-Term};
+ghost use Rattle.ranked_terms.specs.Terms.{node};
 ghost use Rattle.ranked_terms.specs.Positions.{SubtermAt, ReplacedAt, IsSameBut, both_now};
 
 use crate::position::Position;
@@ -106,16 +108,33 @@ fn replace_from(
     let Some(inner) = replace_from(alloc, &old[number - 1], numbers, from + 1, by)? else {
         return Ok(None);
     };
+    let replaced = with_argument(alloc, term, number, inner)?;
+    Ok(Some(replaced))
+}
+
+// A copy of the term whose argument of this number, counted from 1, is another.
+fn with_argument(
+    alloc: Global,
+    term: &Term,
+    number: usize,
+    argument: Term,
+) -> Result<Term, AllocError>
+    requires some { 1 ≤ number }
+    requires few { number ≤ length (out-Term term.now).args }
+    ensures { IfOk result (λ t. t ≡ node (out-Term term.now).sym
+        (take (number - 1) (out-Term term.now).args ++ argument ∷ drop number (out-Term term.now).args)) }
+{
+    let old = term.args.as_slice();
     let mut args = Seq::new(alloc);
     for arg in &old[..number - 1] {
         args.push(arg.copy(alloc)?)?;
     }
-    args.push(inner)?;
+    args.push(argument)?;
     for arg in &old[number..] {
         args.push(arg.copy(alloc)?)?;
     }
-    Ok(Some(Term {
+    Ok(Term {
         sym: term.sym,
         args,
-    }))
+    })
 }

@@ -6,7 +6,7 @@ ghost use Rattle.term_store.specs.Index.{IsIndexOf};
 ghost use Rattle.term_store.specs.Found.{changed, AreFound, StepsToLarge, IsLiftOf, AreLifted, HasLargeLift};
 
 use crate::index::RuleIndex;
-use crate::rooted::root_steps;
+use crate::rooted::add_root_steps;
 use crate::store::Store;
 use ranked_terms::Seq;
 use smallvec::SmallVec;
@@ -39,20 +39,44 @@ pub fn steps_from(
     ensures found { IfOk result (λ o. MatchOption o (StepsToLarge rules.now (term_at store.old id))
         (AreFound rules.now (term_at store.old id) store.new)) }
 {
+    let mut founds = Seq::new(alloc);
+    if add_steps(alloc, store, rules, index, id, &mut founds)? {
+        return Ok(Some(founds));
+    }
+    Ok(None)
+}
+
+// Adds all steps from a term to a list that has none yet; false only where it steps to a large term.
+fn add_steps(
+    alloc: Global,
+    store: &mut Store,
+    rules: &[Rule],
+    index: &RuleIndex,
+    id: u32,
+    founds: &mut Seq<Found>,
+) -> Result<bool, AllocError>
+    requires index { IsIndexOf rules.now index.now }
+    requires there { id < length store.old }
+    requires none { founds.old ≡ [] }
+    ensures kept { IfOk result (λ o. Keeps store.old store.new) }
+    ensures found { IfOk result (λ o. MatchBool o (AreFound rules.now (term_at store.old id) store.new founds.new)
+        (StepsToLarge rules.now (term_at store.old id))) }
+{
     let (sym, args) = store.parts(id)?;
-    let Some(mut founds) = root_steps(alloc, store, rules, index, id)? else {
-        return Ok(None);
-    };
+    if !add_root_steps(alloc, store, rules, index, id, founds)? {
+        return Ok(false);
+    }
     for place in 0..args.as_slice().len() {
         let arg = args.as_slice()[place];
-        let Some(below) = steps_from(alloc, store, rules, index, arg)? else {
-            return Ok(None);
-        };
-        if !lift_all(store, sym, args.as_slice(), place, below, &mut founds)? {
-            return Ok(None);
+        let mut below = Seq::new(alloc);
+        if !add_steps(alloc, store, rules, index, arg, &mut below)? {
+            return Ok(false);
+        }
+        if !lift_all(store, sym, args.as_slice(), place, below, founds)? {
+            return Ok(false);
         }
     }
-    Ok(Some(founds))
+    Ok(true)
 }
 
 // Adds the steps in an argument as steps of the whole term; false where one of these is large.

@@ -1,5 +1,5 @@
 //! The steps at the root of a term of a store.
-ghost use Rattle.std.specs.Prelude.{◌≡◌, ◌<◌, ◌^◌, ℕ, length, IfOk, MatchOption, MatchBool, Contains, slice_get, Some};
+ghost use Rattle.std.specs.Prelude.{◌≡◌, ◌<◌, ◌^◌, [], ℕ, length, IfOk, MatchOption, MatchBool, Contains, slice_get, Some};
 ghost use Rattle.ranked_terms.specs.Terms.{size_of, occurrences};
 ghost use Rattle.ranked_terms.specs.Matching.{bound_in};
 ghost use Rattle.term_store.specs.Store.{term_at, Keeps};
@@ -15,31 +15,32 @@ use smallvec::SmallVec;
 use std::alloc::{AllocError, Global};
 use trs_rules::Rule;
 
-/// The steps at the root by rules that stand in the index; `None` only where one of them leads to a term of more than
-/// 1,024 symbols. The only error is running out of memory.
-pub(crate) fn root_steps(
+/// Adds the steps at the root by rules that stand in the index to a list that has none yet; false only where one of them
+/// leads to a term of more than 1,024 symbols. The only error is running out of memory.
+pub(crate) fn add_root_steps(
     alloc: Global,
     store: &mut Store,
     rules: &[Rule],
     index: &RuleIndex,
     id: u32,
-) -> Result<Option<Seq<Found>>, AllocError>
+    founds: &mut Seq<Found>,
+) -> Result<bool, AllocError>
     requires index { IsIndexOf rules.now index.now }
     requires there { id < length store.old }
+    requires none { founds.old ≡ [] }
     ensures kept { IfOk result (λ o. Keeps store.old store.new) }
-    ensures found { IfOk result (λ o. MatchOption o (StepsToLarge rules.now (term_at store.old id))
-        (AreFoundUpTo rules.now (term_at store.old id) store.new 0)) }
+    ensures found { IfOk result (λ o. MatchBool o (AreFoundUpTo rules.now (term_at store.old id) store.new 0 founds.new)
+        (StepsToLarge rules.now (term_at store.old id))) }
 {
     let (sym, _) = store.node(id);
     let entries = index.with_root(sym);
-    let mut founds = Seq::new(alloc);
     for k in 0..entries.len() {
         let number = entries[k].1;
         let rule = &rules[number as usize];
         let mut binding = Vec::new(alloc);
         if match_ids(store, rule.left(), id, &mut binding)? {
             let Some(term) = build_ids(store, rule.right(), binding.as_slice())? else {
-                return Ok(None);
+                return Ok(false);
             };
             founds.push(Found {
                 rule: number,
@@ -48,7 +49,7 @@ pub(crate) fn root_steps(
             })?;
         }
     }
-    Ok(Some(founds))
+    Ok(true)
 }
 
 // The identity bound to a variable.

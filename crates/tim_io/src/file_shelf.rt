@@ -1,12 +1,13 @@
 //! The real files.
-ghost use Rattle.std.specs.Prelude.{◌≡◌, ℕ, ◌<◌, ◌≤◌, List, Ok, IfOk, IfErr, IsErrOf, OnErr, OnOk, length};
+ghost use Rattle.std.specs.Prelude.{◌≡◌, ℕ, ◌<◌, ◌≤◌, List, Ok, IfOk, IfErr, IsErrOf, IsSome, OnErr, OnOk, length};
+ghost use Rattle.std.specs.BTreeMap.{get_by_text};
 ghost use Rattle.tim_io.specs.Causes.{one_more, Rose};
 ghost use Rattle.tim_io.specs.FileShelf.{untold, faults_in, file_in, ReadsOn};
 ghost use Rattle.tim_io.specs.Shelves.{Takes, OthersStay};
 
 use crate::shelf::{Shelf, TakeError};
 use crate::system::read_answer;
-use std::alloc::Global;
+use std::alloc::{AllocError, Global};
 use std::collections::BTreeMap;
 use std::io::Read;
 use std::rt::Files;
@@ -74,6 +75,26 @@ impl<'a, R: Files> FileShelf<'a, R> {
             files: BTreeMap::new(alloc),
         }
     }
+
+    /// Keeps the file of a name that was not asked for yet, so that no byte is lost on running out of memory later. It is
+    /// not opened here. On running out of memory nothing changes.
+    #[tactic(auto, using(std::proofs::lemmas::Map::Text::text_keys))]
+    fn keep(&mut self, name: &str) -> Result<(), AllocError>
+        ensures kept { OnOk result (IsSome (get_by_text self.new.files name.now)) }
+        ensures files { (other : List ℕ) → file_in self.new.files other ≡ file_in self.old.files other }
+        ensures faults { (other : List ℕ) → faults_in self.new.files other ≡ faults_in self.old.files other }
+    {
+        if self.files.contains_key(name) {
+            return Ok(());
+        }
+        let key = String::from_str(self.alloc, name)?;
+        let unread = Opened {
+            file: None,
+            faults: 0,
+        };
+        self.files.insert(key, unread)?;
+        Ok(())
+    }
 }
 
 impl<R: Files> Shelf for FileShelf<'_, R> {
@@ -82,7 +103,6 @@ impl<R: Files> Shelf for FileShelf<'_, R> {
     ghost faults = { λ shelf. faults_in shelf.files };
 
     /// A file that cannot be opened or read fails. `Memory` comes where there is no room to keep the file.
-    #[tactic(auto, using(std::proofs::lemmas::Map::Text::text_keys))]
     fn take(&mut self, name: &str, buf: &mut [u8]) -> Result<usize, TakeError>
         ensures bound { IfOk result (λ n. n ≤ length buf.new) }
         ensures takes { Takes (untold name.now) (untold name.now) result buf.new }
@@ -109,18 +129,7 @@ impl<R: Files> Shelf for FileShelf<'_, R> {
         if buf.is_empty() {
             return Ok(0);
         }
-        if let Some(opened) = self.files.get_mut(name) {
-            return opened.take(self.rt, name, buf);
-        }
-        // The file is kept before it is first read, so that no byte is lost on running out of memory.
-        let Ok(key) = String::from_str(self.alloc, name) else {
-            return Err(TakeError::Memory);
-        };
-        let unread = Opened {
-            file: None,
-            faults: 0,
-        };
-        if self.files.insert(key, unread).is_err() {
+        if self.keep(name).is_err() {
             return Err(TakeError::Memory);
         }
         match self.files.get_mut(name) {

@@ -1,6 +1,6 @@
 //! Files in memory, which fail where they are told to.
 ghost use Rattle.std.specs.Prelude.{◌≡◌, ℕ, ◌<◌, ◌≤◌, ◌⊎◌, ◌↔◌, List, Some, None, Ok};
-ghost use Rattle.std.specs.Prelude.{length, IfOk, IfSome, IsErr, IsErrOf, OnOk, OnErr};
+ghost use Rattle.std.specs.Prelude.{length, IfOk, IfSome, IsErr, IsErrOf, IsNone, MatchOption, OnOk, OnErr};
 ghost use Rattle.std.specs.Option.{option_copied};
 ghost use Rattle.tim_io.specs.Causes.{one_more, Rose};
 ghost use Rattle.tim_io.specs.Pieces.{share};
@@ -23,7 +23,9 @@ pub struct MemShelf {
 }
 
 impl MemShelf {
+    ghost use Rattle.tim_io.specs.Files.{Gives};
     ghost use Rattle.tim_io.specs.MemShelf.{left_of, faults_of, plan_of};
+    ghost use Rattle.tim_io.specs.Plans.{after_call, FailsNext};
 
     /// A shelf without files. It gives at most `piece` bytes a call, which is at least 1, and fails at the calls whose
     /// numbers are in `fails`. Calls are counted from 1 over all names; those with an empty buffer are not counted.
@@ -57,6 +59,24 @@ impl MemShelf {
         ensures { option_copied result ≡ left_of self.now name.now }
     {
         self.files.rest(name)
+    }
+
+    /// Counts a call, and gives the next bytes of a name, at most a piece. `None` comes just where the call is to fail or
+    /// the name is not there; then it gives nothing.
+    fn give(&mut self, name: &str, buf: &mut [u8]) -> Option<usize>
+        ensures refuses { IsNone result ↔ (FailsNext (plan_of self.old) ⊎ (left_of self.old name.now ≡ None)) }
+        ensures given { MatchOption result
+            (left_of self.new name.now ≡ left_of self.old name.now)
+            (λ n. Gives (left_of self.old name.now) (left_of self.new name.now) (Some n) buf.new (plan_of self.old).piece) }
+        ensures others { OthersStay (left_of self.old) (left_of self.new) name.now }
+        ensures faults { (other : List ℕ) → faults_of self.new other ≡ faults_of self.old other }
+        ensures call { plan_of self.new ≡ after_call (plan_of self.old) }
+    {
+        if self.plan.next_fails() {
+            return None;
+        }
+        let piece = self.plan.piece();
+        self.files.give(name, buf, piece)
     }
 }
 
@@ -98,11 +118,7 @@ impl Shelf for MemShelf {
         if buf.is_empty() {
             return Ok(0);
         }
-        if self.plan.next_fails() {
-            return Err(self.faults.fault(name));
-        }
-        let piece = self.plan.piece();
-        match self.files.give(name, buf, piece) {
+        match self.give(name, buf) {
             Some(count) => Ok(count),
             None => Err(self.faults.fault(name)),
         }

@@ -1,5 +1,5 @@
-use Rattle.std.proofs.Common.{◌≡◌, ◌↔◌, ◌≤◌, ◌-◌, ◌+◌, ◌<◌, [], ◌∷◌, ◌++◌, Some, take, drop, get_or, length, subst, sym, ap, ◌∙◌, append_assoc, length-drop, arith}
-use Rattle.std.proofs.lemmas.List.{drop_more, take_all}
+use Rattle.std.proofs.Common.{◌≡◌, ◌↔◌, ◌≤◌, ◌-◌, ◌+◌, ◌<◌, ◌∷◌, ◌++◌, Some, take, drop, get_or, length, subst, sym, ap, ◌∙◌, arith}
+use Rattle.std.proofs.lemmas.List.{drop_more}
 use Rattle.ranked_terms.specs.Terms.{node}
 use Rattle.ranked_terms.specs.declared.term.Term.{Term}
 use Rattle.ranked_terms.specs.declared.term.Term.TheViews.{out-Term}
@@ -13,17 +13,10 @@ returns t c u =
     let term = c.args.term.now in let old = c.as_slice-old.result.now in let w = c.in-Some.inner in
     let e : old ≡ args_of term = c.as_slice-old.ensures in
     let lt : i < length ks = omega (arith, c.requires, c.if-from-numbers.false) in
-    let front : c.loop-arg.args ≡ take (k - 1) old = c.loop-arg.invariant ∙ take_all c.loop-arg.arg-index (take (k - 1) old) c.loop-arg-test.false in
-    let back = take_all c.loop-arg-2.arg-index (take (length old - k) (drop k old)) c.loop-arg-2-test.false ∙ take_all (length old - k) (drop k old) (omega (arith, length-drop k old)) in
-    let all : c.loop-arg-2.args ≡ take (k - 1) old ++ w ∷ drop k old =
-    c.loop-arg-2.invariant
-    ∙ ((λ j. (c.in_ok-push-2.ensures.ok ∙ ap (λ xs. xs ++ w ∷ []) front) j ++ back j)
-    ∙ append_assoc (take (k - 1) old) (w ∷ []) (drop k old)) in
     let few : k ≤ length (args_of term) = subst (λ ts. k ≤ length ts) e (omega (arith, c.if-old-number.false)) in
     let some : 1 ≤ k = omega (arith, c.if-number-eq0.false) in
     let inner = λ (x : Term). subst (λ o. (o ≡ Some x) ↔ ReplacedAt by (drop (i + 1) ks) c.index-old-number.result x) c.in-Some.is (c.in_ok-inner.ensures x) in
     let h = is_replaced by k (drop (i + 1) ks) term c.index-old-number.result some few (c.index-old-number.is ∙ ap (λ ts. get_or ts (k - 1) c.index-old-number.result) e) w inner u in
-    let same : Some (node (out-Term term).sym c.loop-arg-2.args) ≡ Some (node (out-Term term).sym (take (k - 1) (args_of term) ++ w ∷ drop k (args_of term))) =
-    ap (λ xs. Some (node (out-Term term).sym xs)) (all ∙ ap (λ ts. take (k - 1) ts ++ w ∷ drop k ts) e) in
+    let same = ap Some c.in_ok-replaced.ensures in
     let d = drop_more ks i 0 lt in
     (λ x. subst (λ p. ReplacedAt by p term u) (sym d) (h.0 (sym same ∙ x)), λ r. same ∙ h.1 (subst (λ p. ReplacedAt by p term u) d r))

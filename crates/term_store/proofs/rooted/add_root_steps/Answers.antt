@@ -5,8 +5,8 @@ use Rattle.term_store.specs.Rooted.{AreFoundBy}
 use Rattle.term_store.proofs.FoundLaws.{keeps_itself, keeps_more}
 use Rattle.term_store.proofs.RootedLaws.{entry_there, bound_right, large_step, step_passed, step_found, no_rule, all_rules}
 use Rattle.term_store.proofs.Cases.{when_true, when_false, when_none, when_some}
-use Rattle.term_store.proofs.rooted.root_steps.Goals as goal
-use Rattle.term_store.proofs.rooted.root_steps.Goals.{then-branch+in_ok-term+in-Some+in_ok-push, else-branch}
+use Rattle.term_store.proofs.rooted.add_root_steps.Goals as goal
+use Rattle.term_store.proofs.rooted.add_root_steps.Goals.{then-branch+in_ok-term+in-Some+in_ok-push, else-branch}
 
 pub build_ids-requires-clause-bound : goal.build_ids-requires-clause-bound
 build_ids-requires-clause-bound c =
@@ -51,7 +51,7 @@ loop-k-preserved c =
     ]
 
 pub loop-k-init : goal.loop-k-init
-loop-k-init c = (keeps_itself c.args.store.now, subst (AreFoundBy c.args.rules.now (term_at c.args.store.now c.args.id) c.args.store.now []) (sym c.new-founds.ensures) (no_rule c.args.rules.now (term_at c.args.store.now c.args.id) c.args.store.now))
+loop-k-init c = (keeps_itself c.args.store.now, subst (AreFoundBy c.args.rules.now (term_at c.args.store.now c.args.id) c.args.store.now []) (sym c.requires.none) (no_rule c.args.rules.now (term_at c.args.store.now c.args.id) c.args.store.now))
 
 pub returns-clause-found : goal.returns-clause-found
 returns-clause-found c =

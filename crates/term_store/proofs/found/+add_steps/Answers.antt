@@ -1,14 +1,14 @@
 use Rattle.std.proofs.Common.{◌≡◌, ◌+◌, ◌<◌, ◌≤◌, List, ℕ, length, get_or, All, sym, ap, subst, ◌∙◌, arith}
-use Rattle.std.specs.Prelude.{MatchOption, MatchBool}
 use Rattle.ranked_terms.specs.declared.term.Term.{Term}
 use Rattle.trs_rules.specs.Rules.{RewriteRule}
 use Rattle.term_store.specs.Store.{term_at, applied, Keeps}
 use Rattle.term_store.specs.Found.{AreFound, AreFoundUpTo, StepsToLarge, AreLifted, HasLargeLift}
 use Rattle.term_store.specs.declared.found.Found.{Found}
 use Rattle.term_store.proofs.StoreLaws.{below}
+use Rattle.term_store.proofs.Cases.{when_true, when_false}
 use Rattle.term_store.proofs.FoundLaws.{length-keeps, keeps_more}
 use Rattle.term_store.proofs.StepsLaws.{term_at_stays, applied_stays, one_argument_more, all_arguments, large_inside, large_lift}
-use Rattle.term_store.proofs.found.+steps_from.Goals as goal
+use Rattle.term_store.proofs.found.+add_steps.Goals as goal
 
 -- what holds in the loop, of the store at its start, in the loop and after the steps of an argument
 module _ (R : List RewriteRule) (start : List Term) (id f : ℕ) (args : List ℕ) (here : id < length start) (is : term_at start id ≡ applied start f args) (low : All (λ a. a < id) args)
@@ -44,31 +44,31 @@ module _ (R : List RewriteRule) (start : List Term) (id f : ℕ) (args : List �
         (below id (length after) args (let n = length-keeps start after both in omega (arith, here, n)) low)
         (is_now after both) founds old new (subst (λ zs. AreLifted f zs place after last founds old new) e lifts) inside_after earlier
 
-pub returns-in_default-2-clause-found : goal.returns-in_default-2-clause-found
-returns-in_default-2-clause-found t c =
+pub returns-then-not-branch-2-clause-found : goal.returns-then-not-branch-2-clause-found
+returns-then-not-branch-2-clause-found t c =
     too_large c.args.rules.now c.args.store.now c.args.id c.in_ok-sym.sym c.in_ok-sym.args c.requires.there c.in_ok-sym.ensures.is c.in_ok-sym.ensures.args
     c.loop-place.store c.loop-place.invariant.0 c.as_slice-place-end.result.now c.as_slice-place-end.ensures c.as_slice.result.now c.as_slice.ensures c.loop-place.place c.loop-place-test.true
-    (subst (λ o. MatchOption o (StepsToLarge c.args.rules.now (term_at c.loop-place.store (get_or c.as_slice.result.now c.loop-place.place 0))) (AreFound c.args.rules.now (term_at c.loop-place.store (get_or c.as_slice.result.now c.loop-place.place 0)) c.steps_from.new.store)) c.in_default-2.is c.in_ok-below.ensures.found)
+    (when_false _ _ c.in_ok-add_steps.field-0 c.if-not-branch-2.true c.in_ok-add_steps.ensures.found)
 
-pub returns-then-not-branch-clause-found : goal.returns-then-not-branch-clause-found
-returns-then-not-branch-clause-found t c =
+pub returns-then-not-branch-3-clause-found : goal.returns-then-not-branch-3-clause-found
+returns-then-not-branch-3-clause-found t c =
     lifted_large c.args.rules.now c.args.store.now c.args.id c.in_ok-sym.sym c.in_ok-sym.args c.requires.there c.in_ok-sym.ensures.is c.in_ok-sym.ensures.args
     c.loop-place.store c.loop-place.invariant.0 c.as_slice-place-end.result.now c.as_slice-place-end.ensures c.as_slice.result.now c.as_slice.ensures c.loop-place.place c.loop-place-test.true
-    c.steps_from.new.store c.in_ok-below.ensures.kept c.in-Some-2.below
-    (subst (λ o. MatchOption o (StepsToLarge c.args.rules.now (term_at c.loop-place.store (get_or c.as_slice.result.now c.loop-place.place 0))) (AreFound c.args.rules.now (term_at c.loop-place.store (get_or c.as_slice.result.now c.loop-place.place 0)) c.steps_from.new.store)) c.in-Some-2.is c.in_ok-below.ensures.found)
+    c.add_steps.new.store c.in_ok-add_steps.ensures.kept c.add_steps.new.founds
+    (when_true _ _ c.in_ok-add_steps.field-0 c.if-not-branch-2.false c.in_ok-add_steps.ensures.found)
     c.as_slice-in-loop-place.result.now c.as_slice-in-loop-place.ensures
-    (subst (λ b. MatchBool b (AreLifted c.in_ok-sym.sym c.as_slice-in-loop-place.result.now c.loop-place.place c.steps_from.new.store c.lift_all.new.store c.in-Some-2.below c.loop-place.founds c.lift_all.new.founds) (HasLargeLift c.in_ok-sym.sym c.as_slice-in-loop-place.result.now c.loop-place.place c.steps_from.new.store c.in-Some-2.below)) c.if-not-branch.true c.in_ok-lift_all.ensures.lifted)
+    (when_false _ _ c.in_ok-lift_all.field-0 c.if-not-branch-3.true c.in_ok-lift_all.ensures.lifted)
 
 pub loop-place-preserved : goal.loop-place-preserved
 loop-place-preserved t c = (
-  keeps_more c.args.store.now c.steps_from.new.store c.lift_all.new.store (keeps_more c.args.store.now c.loop-place.store c.steps_from.new.store c.loop-place.invariant.0 c.in_ok-below.ensures.kept) c.in_ok-lift_all.ensures.kept,
+  keeps_more c.args.store.now c.add_steps.new.store c.lift_all.new.store (keeps_more c.args.store.now c.loop-place.store c.add_steps.new.store c.loop-place.invariant.0 c.in_ok-add_steps.ensures.kept) c.in_ok-lift_all.ensures.kept,
   one_more c.args.rules.now c.args.store.now c.args.id c.in_ok-sym.sym c.in_ok-sym.args c.requires.there c.in_ok-sym.ensures.is c.in_ok-sym.ensures.args
       c.loop-place.store c.loop-place.invariant.0 c.as_slice-place-end.result.now c.as_slice-place-end.ensures c.as_slice.result.now c.as_slice.ensures c.loop-place.place c.loop-place-test.true
-      c.steps_from.new.store c.in_ok-below.ensures.kept c.in-Some-2.below
-      (subst (λ o. MatchOption o (StepsToLarge c.args.rules.now (term_at c.loop-place.store (get_or c.as_slice.result.now c.loop-place.place 0))) (AreFound c.args.rules.now (term_at c.loop-place.store (get_or c.as_slice.result.now c.loop-place.place 0)) c.steps_from.new.store)) c.in-Some-2.is c.in_ok-below.ensures.found)
+      c.add_steps.new.store c.in_ok-add_steps.ensures.kept c.add_steps.new.founds
+      (when_true _ _ c.in_ok-add_steps.field-0 c.if-not-branch-2.false c.in_ok-add_steps.ensures.found)
       c.as_slice-in-loop-place.result.now c.as_slice-in-loop-place.ensures
       c.lift_all.new.store c.in_ok-lift_all.ensures.kept c.loop-place.founds c.lift_all.new.founds c.loop-place.invariant.1
-      (subst (λ b. MatchBool b (AreLifted c.in_ok-sym.sym c.as_slice-in-loop-place.result.now c.loop-place.place c.steps_from.new.store c.lift_all.new.store c.in-Some-2.below c.loop-place.founds c.lift_all.new.founds) (HasLargeLift c.in_ok-sym.sym c.as_slice-in-loop-place.result.now c.loop-place.place c.steps_from.new.store c.in-Some-2.below)) c.if-not-branch.false c.in_ok-lift_all.ensures.lifted),
+      (when_true _ _ c.in_ok-lift_all.field-0 c.if-not-branch-3.false c.in_ok-lift_all.ensures.lifted),
 )
 
 pub returns-clause-found : goal.returns-clause-found
@@ -76,3 +76,10 @@ returns-clause-found t c =
     let args = c.in_ok-sym.args in
     let enough : length args ≤ c.loop-place.place = subst (λ xs. length xs ≤ c.loop-place.place) c.as_slice-place-end.ensures (omega (arith, c.loop-place-test.false)) in
     all_arguments c.args.rules.now (term_at c.args.store.now c.args.id) c.in_ok-sym.sym args c.loop-place.store c.args.store.now c.loop-place.founds c.loop-place.place enough c.in_ok-sym.ensures.is c.loop-place.invariant.1
+
+pub lift_all-requires-clause-args : goal.lift_all-requires-clause-args
+lift_all-requires-clause-args t c =
+    let start = c.args.store.now in let after = c.add_steps.new.store in
+    let more = length-keeps start after (keeps_more start c.loop-place.store after c.loop-place.invariant.0 c.in_ok-add_steps.ensures.kept) in
+    subst (λ zs. All (λ a. a < length after) zs) (sym c.as_slice-in-loop-place.ensures)
+    (below c.args.id (length after) c.in_ok-sym.args (let here = c.requires.there in omega (arith, here, more)) c.in_ok-sym.ensures.args)
