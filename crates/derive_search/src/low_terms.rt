@@ -1,10 +1,12 @@
 //! The terms of bounded height of an automaton.
-ghost use Rattle.std.specs.Prelude.{◌≡◌, ◌<◌, length, map, All, IsTrue, IfOk};
+ghost use Rattle.std.specs.Prelude.{◌≡◌, ◌<◌, ℕ, length, map, All, IsTrue, IfOk};
 ghost use Rattle.ranked_terms.specs.Terms.{is_over};
 ghost use Rattle.ranked_terms.specs.Texts.{term_text};
+ghost use Rattle.ta_core.specs.TreeAutomaton.{TreeAutomaton};
 ghost use Rattle.ta_core.specs.SpecRules.{automaton_is_over};
 ghost use Rattle.term_store.specs.Store.{term_at};
-ghost use Rattle.derive_search.specs.LowPairs.{ArePlaced};
+ghost use Rattle.derive_search.specs.LowPairs.{ArePlaced, AreLowPairs};
+ghost use Rattle.derive_search.specs.Starts.{AreLowRuns};
 ghost use Rattle.derive_search.specs.TextOrder.{ArePrinted, named};
 ghost use Rattle.derive_search.specs.TermsAnswer.{TermsAnswer};
 
@@ -51,21 +53,37 @@ pub fn terms_of(
     requires { IsTrue (automaton_is_over sig.now a.now) }
     ensures { IfOk result (TermsAnswer sig.now a.now height limit) }
 {
-    // For the proof: what runs is over the signature, and terms over it with one text are one.
+    // For the proof: what runs is over the signature.
     accepted_terms_are_over();
     runs_are_monotone();
-    of_terms_over();
-    let _symbols = sig.len();
     let mut store = Store::new(alloc);
     let Some(pairs) = low_pairs(alloc, &mut store, a, height, limit as usize)? else {
         return Ok(TermsEnd::Over);
     };
-    // For the proof: no two terms of the store are equal, and no pair stands twice.
-    let (_terms, _pairs) = (store.len(), pairs.len());
-    let mut printed = print_pairs(alloc, sig, &store, &pairs)?;
-    printed.sort_unstable();
-    let list = terms_in_order(alloc, &store, printed.as_slice())?;
+    let list = in_print_order(alloc, sig, &store, &pairs)?;
     Ok(TermsEnd::List(list))
+}
+
+// The pairs with the terms themselves, by state and then by printed bytes.
+fn in_print_order(
+    alloc: Global,
+    sig: &Signature,
+    store: &Store,
+    pairs: &IndexSet<(u32, u32)>,
+) -> Result<Seq<(u32, Term)>, AllocError>
+    requires placed { ArePlaced store.now pairs.now.keys }
+    requires over { All (λ p. IsTrue (is_over sig.now (term_at store.now p.1))) pairs.now.keys }
+    ensures { IfOk result (λ list. (a : TreeAutomaton) (height limit : ℕ) →
+        AreLowPairs a height limit store.now pairs.now.keys → AreLowRuns sig.now a height list) }
+{
+    // For the proof: terms over the signature with one text are one, no two terms of the store are equal, and no pair stands
+    // twice.
+    of_terms_over();
+    let (_symbols, _terms, _pairs) = (sig.len(), store.len(), pairs.len());
+    let mut printed = print_pairs(alloc, sig, store, pairs)?;
+    printed.sort_unstable();
+    let list = terms_in_order(alloc, store, printed.as_slice())?;
+    Ok(list)
 }
 
 // The pairs with the texts of their terms.

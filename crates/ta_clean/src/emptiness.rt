@@ -1,5 +1,6 @@
 //! The states to which ground terms run.
-ghost use Rattle.std.specs.Prelude.{◌↔◌, ℕ, IsTrue, IfOk, Contains, All};
+ghost use Rattle.std.specs.Prelude.{◌↔◌, ℕ, [], IsTrue, IfOk, OnOk, Contains, All};
+ghost use Rattle.ta_core.specs.Meeting.{Meets};
 ghost use Rattle.ta_clean.specs.Tables.{IsMarked};
 ghost use Rattle.ta_clean.specs.Productive.{IsProductive, IsEmpty, HasAllTerms};
 
@@ -11,12 +12,31 @@ use ta_core::{Automaton, StateSet, Trans};
 pub fn productive(alloc: Global, automaton: &Automaton) -> Result<StateSet, AllocError>
     ensures { IfOk result (λ all. (q : ℕ) → Contains all q ↔ IsProductive automaton.now q) }
 {
+    let states = productive_states(alloc, automaton)?;
+    StateSet::from_states(alloc, states)
+}
+
+/// The same as a list. The only error is running out of memory.
+fn productive_states(alloc: Global, automaton: &Automaton) -> Result<Vec<u32>, AllocError>
+    ensures { IfOk result (λ states. (q : ℕ) → Contains states.items q ↔ IsProductive automaton.now q) }
+{
     let all = all_terms(alloc, automaton.trans())?;
-    let mut meetings = Meetings::new(alloc, automaton, &all)?;
-    meetings.mark(automaton, &all);
-    let marked = marked_states(alloc, &meetings, automaton.states())?;
-    let set = StateSet::from_states(alloc, marked)?;
-    Ok(set)
+    states_met(alloc, automaton, &all)
+}
+
+/// The automaton's states to which a ground term runs that runs to the state 0 of the other automaton too. The only error is
+/// running out of memory.
+fn states_met(
+    alloc: Global,
+    automaton: &Automaton,
+    other: &Automaton,
+) -> Result<Vec<u32>, AllocError>
+    ensures { IfOk result (λ states. (q : ℕ) →
+        Contains states.items q ↔ (Contains automaton.now.states q × Meets automaton.now other.now (q, 0))) }
+{
+    let mut meetings = Meetings::new(alloc, automaton, other)?;
+    meetings.mark(automaton, other);
+    marked_states(alloc, &meetings, automaton.states())
 }
 
 /// Those of the states that are marked with the state 0. The only error is running out of memory.
@@ -54,9 +74,19 @@ pub(crate) fn all_terms(alloc: Global, trans: &[Trans]) -> Result<Automaton, All
 {
     let mut all = Automaton::with_states(alloc, 1, &[0])?;
     let _ = all.set_final(0)?;
+    add_over_zero(alloc, &mut all, trans)?;
+    Ok(all)
+}
+
+/// Adds, for each of the transitions, one of its symbol from the state 0, as often as it has arguments, to that state. The only
+/// error is running out of memory.
+fn add_over_zero(alloc: Global, all: &mut Automaton, trans: &[Trans]) -> Result<(), AllocError>
+    requires { HasAllTerms [] all.old }
+    ensures { OnOk result (HasAllTerms trans.now all.new) }
+{
     for t in trans {
         let zeros = vec![in alloc; 0_u32; t.args.as_slice().len()]?;
         let _ = all.add_trans(t.sym, zeros.as_slice(), 0)?;
     }
-    Ok(all)
+    Ok(())
 }

@@ -1,15 +1,16 @@
 //! Terms of least size that an automaton accepts, or two automata.
-ghost use Rattle.std.specs.Prelude.{IfOk};
+ghost use Rattle.std.specs.Prelude.{ℕ, IfOk, IfSome, IfNone};
 ghost use Rattle.ta_core.specs.Languages.{Accepts};
-ghost use Rattle.ta_clean.specs.Meeting.{IsCommon};
+ghost use Rattle.ta_clean.specs.Meeting.{IsCommon, FinalsMeet};
 ghost use Rattle.ta_clean.specs.Least.{Witnesses};
+ghost use Rattle.ta_clean.specs.Sizes.{AreLeast};
 
 use crate::building::Both;
 use crate::emptiness::all_terms;
 use crate::final_pairs::least_meeting;
 use crate::meeting::Meetings;
 use crate::settling::least_sizes;
-use crate::sizes::TOO_LARGE;
+use crate::sizes::{SizeTable, TOO_LARGE};
 use ranked_terms::{Seq, Term};
 use std::alloc::{AllocError, Global};
 use ta_core::Automaton;
@@ -40,8 +41,7 @@ pub fn least_witness(alloc: Global, automaton: &Automaton) -> Result<Witness, Al
     ensures { IfOk result (Witnesses (Accepts automaton.now)) }
 {
     let all = all_terms(alloc, automaton.trans())?;
-    let witness = common_witness(alloc, automaton, &all)?;
-    Ok(witness)
+    common_witness(alloc, automaton, &all)
 }
 
 /// A term of least size that both automata accept: `None` exactly where they accept none in common, and `Large` exactly where
@@ -53,19 +53,49 @@ pub fn common_witness(
 ) -> Result<Witness, AllocError>
     ensures { IfOk result (Witnesses (IsCommon first.now second.now)) }
 {
-    let mut meetings = Meetings::new(alloc, first, second)?;
-    let Some((some_first, some_second)) = least_meeting(&mut meetings, first, second) else {
+    let Some((some_first, some_second)) = some_meeting(alloc, first, second)? else {
         return Ok(Witness::None);
     };
+    let sizes = least_sizes(alloc, first, second)?;
+    sized_witness(alloc, first, second, &sizes, some_first, some_second)
+}
+
+/// The least final states of the two automata to which one ground term runs, as `least_meeting` finds them. The only error is
+/// running out of memory.
+fn some_meeting(
+    alloc: Global,
+    first: &Automaton,
+    second: &Automaton,
+) -> Result<Option<(u32, u32)>, AllocError>
+    ensures some { IfOk result (λ found. IfSome found (λ finals. FinalsMeet first.now second.now finals.0 finals.1)) }
+    ensures none { IfOk result (λ found. IfNone found ((p q : ℕ) → FinalsMeet first.now second.now p q → ⊥)) }
+{
+    let mut meetings = Meetings::new(alloc, first, second)?;
+    Ok(least_meeting(&mut meetings, first, second))
+}
+
+/// A term of least size that both automata accept, by the least sizes, and two final states to which one ground term runs. The
+/// only error is running out of memory.
+fn sized_witness(
+    alloc: Global,
+    first: &Automaton,
+    second: &Automaton,
+    sizes: &SizeTable,
+    some_first: u32,
+    some_second: u32,
+) -> Result<Witness, AllocError>
+    requires sizes { AreLeast (record { first = first.now; second = second.now }) sizes.now }
+    requires meet { FinalsMeet first.now second.now some_first some_second }
+    ensures { IfOk result (Witnesses (IsCommon first.now second.now)) }
+{
     // For the proof: their contracts say what holds of every automaton.
     let _ = first.next();
     let _ = second.next();
-    let sizes = least_sizes(alloc, first, second)?;
     let both = Both::new(first, second);
-    let (state, other) = both.least_final(&sizes, some_first, some_second);
+    let (state, other) = both.least_final(sizes, some_first, some_second);
     if sizes.get(state, other).size >= TOO_LARGE {
         return Ok(Witness::Large);
     }
-    let term = both.build(alloc, &sizes, state, other)?;
+    let term = both.build(alloc, sizes, state, other)?;
     Ok(Witness::Term(term))
 }

@@ -1,5 +1,5 @@
 -- Automata with what is added to them kept aside.
-use Rattle.std.proofs.Common.{◌≡◌, ℕ, zero, suc, ◌+◌, List, [], ◌∷◌, ◌++◌, sym, ap, subst, ◌∙◌, arith, append_assoc}
+use Rattle.std.proofs.Common.{◌≡◌, ℕ, zero, suc, ◌+◌, List, [], ◌∷◌, ◌++◌, Result, Ok, Err, OnOk, sym, ap, subst, ◌∙◌, arith, append_assoc}
 use Rattle.std.specs.List.{range_with_len}
 use Rattle.std.specs.List.Sorted.{IsStrictlySortedBy}
 use Rattle.std.proofs.lemmas.List.{append-nil}
@@ -52,14 +52,24 @@ no_states A =
     let next : A.next + 0 ≡ A.next = omega arith in
     λ i. record A { states = states i; next = next i }
 
+-- the transitions of a set are added
+pub trans_added : {X E : Type 0} (r : Result X E) (A B : TreeAutomaton) (more keys : List Trans) → more ≡ keys → OnOk r (IsUnion A.trans more B.trans) → OnOk r (IsStrictlySortedBy trans_cmp B.trans) →
+    OnOk r (B ≡ record A { trans = B.trans }) → OnOk r (B ≡ record A { trans = in_order trans_cmp (A.trans ++ keys) })
+trans_added (Ok x) A B more keys is union sorted rest =
+    let trans = in_order_union trans_total trans_exact A.trans keys B.trans (subst (λ ts. IsUnion A.trans ts B.trans) is union) sorted in
+    rest ∙ (λ i. record A { trans = trans i })
+trans_added (Err x) A B more keys is union sorted rest = rest
+
+-- and those without a symbol
+pub eps_added : {X E : Type 0} (r : Result X E) (A B : TreeAutomaton) (more keys : List (ℕ × ℕ)) → more ≡ keys → OnOk r (IsUnion A.eps more B.eps) → OnOk r (IsStrictlySortedBy pair_cmp B.eps) →
+    OnOk r (B ≡ record A { eps = B.eps }) → OnOk r (B ≡ record A { eps = in_order pair_cmp (A.eps ++ keys) })
+eps_added (Ok x) A B more keys is union sorted rest =
+    let eps = in_order_union pair_total pair_exact A.eps keys B.eps (subst (λ es. IsUnion A.eps es B.eps) is union) sorted in
+    rest ∙ (λ i. record A { eps = eps i })
+eps_added (Err x) A B more keys is union sorted rest = rest
+
 -- all that was added
-pub finished : (A B C D : TreeAutomaton) (n : ℕ) (ts : List Trans) (es : List (ℕ × ℕ)) → B ≡ with_states A n →
-    IsUnion B.trans ts C.trans → IsStrictlySortedBy trans_cmp C.trans → C ≡ record B { trans = C.trans } →
-    IsUnion C.eps es D.eps → IsStrictlySortedBy pair_cmp D.eps → D ≡ record C { eps = D.eps } → D ≡ grown_by A n ts es
-finished A B C D n ts es b ut st ct ue se de =
-    let trans : C.trans ≡ in_order trans_cmp (A.trans ++ ts) =
-    in_order_union trans_total trans_exact A.trans ts C.trans (subst (λ (B : TreeAutomaton). IsUnion B.trans ts C.trans) b ut) st in
-    let same : C.eps ≡ A.eps = ap (λ (X : TreeAutomaton). X.eps) ct ∙ ap (λ (X : TreeAutomaton). X.eps) b in
-    let eps : D.eps ≡ in_order pair_cmp (A.eps ++ es) =
-    in_order_union pair_total pair_exact A.eps es D.eps (subst (λ xs. IsUnion xs es D.eps) same ue) se in
-    de ∙ ((λ i. record (ct i) { eps = eps i }) ∙ ((λ i. record (b i) { trans = trans i; eps = in_order pair_cmp (A.eps ++ es) })))
+pub finished : (A B C D : TreeAutomaton) (n : ℕ) (ts : List Trans) (es : List (ℕ × ℕ)) → B ≡ with_states A n → C ≡ record B { trans = in_order trans_cmp (B.trans ++ ts) } →
+    D ≡ record C { eps = in_order pair_cmp (C.eps ++ es) } → D ≡ grown_by A n ts es
+finished A B C D n ts es b ct de =
+    de ∙ ((λ i. record (ct i) { eps = in_order pair_cmp ((ct i).eps ++ es) }) ∙ (λ i. record (b i) { trans = in_order trans_cmp ((b i).trans ++ ts); eps = in_order pair_cmp ((b i).eps ++ es) }))

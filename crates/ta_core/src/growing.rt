@@ -1,8 +1,9 @@
 //! An automaton that grows by many transitions.
-ghost use Rattle.std.specs.Prelude.{◌≡◌, ◌<◌, ◌≤◌, ◌+◌, ℕ, All, Contains, IfOk, OnOk, OnErr, IfSome, IfNone};
+ghost use Rattle.std.specs.Prelude.{◌≡◌, ◌<◌, ◌≤◌, ◌+◌, ◌++◌, ℕ, All, Contains, IfOk, OnOk, OnErr, IfSome, IfNone};
 ghost use Rattle.std.specs.List.Sorted.{IsStrictlySortedBy};
+ghost use Rattle.list_laws.specs.InOrder.{in_order};
 ghost use Rattle.ta_core.specs.Limits.{max_states};
-ghost use Rattle.ta_core.specs.TreeAutomaton.{IsSound, trans_of, trans_cmp};
+ghost use Rattle.ta_core.specs.TreeAutomaton.{IsSound, IsTransOf, IsEpsOf, trans_of, trans_cmp, pair_cmp};
 ghost use Rattle.ta_core.specs.Growth.{with_state, with_trans, with_eps, IsLeastTarget, HasNoTarget};
 ghost use Rattle.ta_core.specs.KeptAside.{IsLeastOf, lesser as lesser_of, with_states};
 
@@ -123,10 +124,9 @@ impl<'a> Growing<'a> {
             trans,
             eps,
         } = self;
-        let alloc = base.alloc();
         let mut grown = with_fresh(base, fresh)?;
-        grown.add_all_trans(listed(alloc, trans)?)?;
-        grown.add_all_eps(listed(alloc, eps)?)?;
+        add_trans_of(&mut grown, trans)?;
+        add_eps_of(&mut grown, eps)?;
         Ok(grown)
     }
 }
@@ -189,6 +189,24 @@ fn with_fresh(base: &Automaton, fresh: u32) -> Result<Automaton, AllocError>
         };
     }
     Ok(grown)
+}
+
+// Adds the transitions of a set. When memory runs out the automaton is as before.
+fn add_trans_of(grown: &mut Automaton, set: BTreeSet<Trans>) -> Result<(), AllocError>
+    requires { All (IsTransOf grown.old.states) set.keys }
+    ensures { OnOk result (grown.new ≡ record grown.old { trans = in_order trans_cmp (grown.old.trans ++ set.keys) }) }
+{
+    let more = listed(grown.alloc(), set)?;
+    grown.add_all_trans(more)
+}
+
+// Adds the epsilon transitions of a set. When memory runs out the automaton is as before.
+fn add_eps_of(grown: &mut Automaton, set: BTreeSet<(u32, u32)>) -> Result<(), AllocError>
+    requires { All (IsEpsOf grown.old.states) set.keys }
+    ensures { OnOk result (grown.new ≡ record grown.old { eps = in_order pair_cmp (grown.old.eps ++ set.keys) }) }
+{
+    let more = listed(grown.alloc(), set)?;
+    grown.add_all_eps(more)
 }
 
 // The members of a set in order.

@@ -54,6 +54,13 @@ impl Reached {
         self.states.contains(&state)
     }
 
+    /// Whether one of the states is a member.
+    pub(crate) fn has_any(&self, states: &[u32]) -> bool
+        ensures { IsTrue result ↔ ((q : ℕ) × Contains states.now q × Contains self.now q) }
+    {
+        states.iter().any(|state| self.contains(*state))
+    }
+
     /// Adds the state as the last, unless it is a member. When memory runs out, the only error, the set stays as it was.
     pub(crate) fn add(&mut self, state: u32) -> Result<(), AllocError>
         ensures ok { OnOk result (self.new ≡ insert_key ◌==◌ self.old state) }

@@ -36,7 +36,7 @@ impl Automaton {
         ensures { IfOk result (λ yes. IsTrue yes ↔ Accepts self.now term.now) }
     {
         let reached = self.reached_by_term(term)?;
-        Ok(self.finals().iter().any(|state| reached.contains(*state)))
+        Ok(reached.has_any(self.finals()))
     }
 
     /// The states to which the state runs: itself and, in any number of steps, where epsilon transitions lead; none

@@ -39,11 +39,15 @@ module _ (A U : TreeAutomaton) (has : HasAllTerms A.trans U) where
   pub common_is_accepted : (t : Term) → IsCommon A U t ↔ Accepts A t
   common_is_accepted t = (λ c. c.first, λ a. record { first = a; second = record { state = 0; runs = runs_too t a.state a.runs; final = has.final } })
 
-  pub productive_is_marked : (table : Table) → ((pair : ℕ × ℕ) → IsMarked table pair ↔ Meets A U pair) → (q : ℕ) → IsMarked table (q, 0) ↔ IsProductive A q
-  productive_is_marked table exact q = (
-    λ m. let meets = (exact (q, 0)).0 m in record { term = meets.term; runs = meets.first },
-    λ p. (exact (q, 0)).1 (record { term = p.term; first = p.runs; second = runs_too p.term q p.runs }),
-  )
+  productive_is_met : (q : ℕ) → Meets A U (q, 0) ↔ IsProductive A q
+  productive_is_met q = (λ m. record { term = m.term; runs = m.first }, λ p. record { term = p.term; first = p.runs; second = runs_too p.term q p.runs })
+
+  pub productive_by : (all : List ℕ) → IsSound A → ((q : ℕ) → Contains all q ↔ (Contains A.states q × Meets A U (q, 0))) → (q : ℕ) → Contains all q ↔ IsProductive A q
+  productive_by all sound h q =
+      let p = productive_is_met q in (
+        λ c. p.0 ((h q).0 c).1,
+        λ productive. (h q).1 (run_ends sound productive.runs, p.1 productive),
+      )
 
 -- ---- the states that are marked
 
@@ -79,13 +83,13 @@ module _ (table : Table) (items : List ℕ) (k : ℕ) (inside : k < length items
 pub marked_all : (table : Table) (items : List ℕ) (k : ℕ) (all : List ℕ) → length items ≤ k → HasMarked table (take k items) all → HasMarked table items all
 marked_all table items k all l h = subst (λ xs. HasMarked table xs all) (take_all k items l) h
 
-pub productive_by : (A U : TreeAutomaton) (table : Table) (items all : List ℕ) → IsSound A → HasAllTerms A.trans U → ((pair : ℕ × ℕ) → IsMarked table pair ↔ Meets A U pair) → items ≡ A.states → HasMarked table items all →
-    (q : ℕ) → Contains all q ↔ IsProductive A q
-productive_by A U table items all sound has exact is h q =
-    let p = productive_is_marked A U has table exact q in (
-      λ c. p.0 ((h q).0 c).1,
-      λ productive. (h q).1 (subst (λ xs. Contains xs q) (sym is) (run_ends sound productive.runs), p.1 productive),
-    )
+-- the table's marks say which states meet
+pub met_by : (A U : TreeAutomaton) (table : Table) (items all : List ℕ) → ((pair : ℕ × ℕ) → IsMarked table pair ↔ Meets A U pair) → items ≡ A.states → HasMarked table items all →
+    (q : ℕ) → Contains all q ↔ (Contains A.states q × Meets A U (q, 0))
+met_by A U table items all exact is h q = (
+  λ c. let b = (h q).0 c in (subst (λ xs. Contains xs q) is b.0, (exact (q, 0)).0 b.1),
+  λ b. (h q).1 (subst (λ xs. Contains xs q) (sym is) b.0, (exact (q, 0)).1 b.1),
+)
 
 -- ---- the automaton of all terms
 

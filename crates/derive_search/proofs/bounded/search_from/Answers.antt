@@ -1,4 +1,4 @@
-use Rattle.std.proofs.Common.{◌≡◌, ◌+◌, ◌≤◌, ◌⊎◌, length, subst, sym, inl, ⊎_elim, arith}
+use Rattle.std.proofs.Common.{◌≡◌, ◌+◌, ◌≤◌, ◌⊎◌, length, subst, sym, ⊎_elim, arith}
 use Rattle.derive_search.specs.Search.{GoesOnTo, SearchAnswer}
 use Rattle.derive_search.specs.Growing.{terms_in, AreGrown, AreClosed, GrowsLarge, IsOneTooMany, IsLevel}
 use Rattle.derive_search.proofs.StoreFacts.{when_true, when_false, when_none, when_some}
