@@ -1,10 +1,11 @@
 #!/usr/bin/env python3
-"""Tries the edits in crates/NAME/by-hand/, which are too dear for the gate: the prover has to refuse each of them.
+"""Tries the edits in crates/NAME/by-hand/, which the gate leaves out to stay short: the prover has to refuse each of them.
 
     bench/by_hand.py [NAME ..]      without names, of each crate that has such a folder
 
-They are as those in must-fail/, where docs/TIMES.md says what the gate would take for them. The repository is copied, and in
-the copy they are put into must-fail/ and tried by `rt must-fail`, which proves the crate and those below it first.
+They are as those in must-fail/: all of `timbuk_reader`, since its proof is long and would be done once more for them, and of
+other crates those that tell least beside the others. The repository is copied, and in the copy they are put into must-fail/
+and tried by `rt must-fail`, which proves the crate and those below it first.
 """
 
 import os

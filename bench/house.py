@@ -63,6 +63,23 @@ def proof_faults(crate):
             yield f'{folder.relative_to(HOME)}: {count} files of lemmas, and not 15 at most'
 
 
+def edit_fault(path):
+    """What keeps an edit from being applied, if something does: each old text stands once in its file."""
+    texts, name, old = {}, '', ''
+    for line in path.read_text().splitlines():
+        word, _, rest = line.partition(': ')
+        if word == 'file':
+            name = rest
+            texts.setdefault(name, (path.parent.parent / name).read_text())
+        elif word == 'old':
+            old = rest
+            if texts[name].count(old) != 1:
+                return f'{path.relative_to(HOME)}: its old text stands {texts[name].count(old)} times in {name}'
+        elif line.startswith('new:'):
+            texts[name] = texts[name].replace(old, line[5:])
+    return None
+
+
 def crate_faults(crate):
     yield from proof_faults(crate)
     for path in files(crate, '.rt'):
@@ -70,6 +87,7 @@ def crate_faults(crate):
     edits, most = len(files(crate, '.edit')), EDITS.get(crate.name, 6)
     if edits > most:
         yield f'{crate.name}: {edits} edits, and not {most} at most'
+    yield from filter(None, map(edit_fault, files(crate, '.edit')))
 
 
 def page_faults(page):
