@@ -19,7 +19,7 @@ use Rattle.closure_check.specs.declared.answer.Answer.TheVariants as answer
 use Rattle.closure_check.specs.declared.replaying.DAnswer.{DAnswer}
 use Rattle.closure_check.specs.declared.replaying.DAnswer.TheVariants as derivation
 use Rattle.calls.specs.AnswerText.{automaton_line, automaton_status, derivation_line, derivation_status}
-use Rattle.calls.specs.Checks.{Checks, ChecksAutomaton, ChecksDerivation, ChecksFiles}
+use Rattle.calls.specs.Checks.{Checks, ChecksAutomaton, ChecksCertificate, ChecksDerivation, ChecksFiles}
 use Rattle.calls.specs.Contents.{OfSpec, OfCert, spec_limit, cert_limit}
 use Rattle.calls.specs.Endings.{Ends, answered}
 use Rattle.calls.specs.Files.{Text, Told, IsRead, OfFile, Aside, Never}
@@ -77,16 +77,20 @@ module _ (spec_name cert_name : Text) (a b : Told) where
   ends_first e h = ends_map (OfFile spec_name spec_limit (λ bytes. OfSpec bytes (λ spec. Never))) (ChecksFiles spec_name cert_name) a a b e
       (of_file spec_name spec_limit (λ bytes. OfSpec bytes (λ spec. Never)) (λ bytes. OfSpec bytes Rest) (λ bytes c d text status h. of_spec Rest bytes c d text status h) a b) h
 
-  module _ (mid : Told) (bytes : Text) (spec : Spec) (is : IsRead spec_name spec_limit a mid bytes) (spelled : SpecText bytes spec) where
-    -- or with the second
-    pub ends_second : (e : Ending) → Ends (OfFile cert_name cert_limit (λ others. OfCert spec others (λ c. Never))) mid b e → Ends (ChecksFiles spec_name cert_name) a b e
-    ends_second e h = ends_map (OfFile cert_name cert_limit (λ others. OfCert spec others (λ c. Never))) (ChecksFiles spec_name cert_name) a mid b e
-        (λ text status says. OfFile.read bytes is (OfSpec.good spec spelled
-        (of_file cert_name cert_limit (λ others. OfCert spec others (λ c. Never)) (λ others. OfCert spec others (λ c. Aside (Checks spec c)))
-        (λ others c d text status h. of_cert spec (λ c. Aside (Checks spec c)) others c d text status h) mid b text status says))) h
+  -- or with what is said of the certificate beside it
+  pub ends_second : (mid : Told) (bytes : Text) (spec : Spec) → IsRead spec_name spec_limit a mid bytes → SpecText bytes spec → (e : Ending) → Ends (ChecksCertificate spec cert_name) mid b e → Ends (ChecksFiles spec_name cert_name) a b e
+  ends_second mid bytes spec is spelled e h =
+      ends_map (ChecksCertificate spec cert_name) (ChecksFiles spec_name cert_name) a mid b e (λ text status says. OfFile.read bytes is (OfSpec.good spec spelled says)) h
 
-    -- or with what the certificate shows
-    pub ends_last : (others : Text) (c : Certificate) → IsRead cert_name cert_limit mid b others → CertificateReads spec others c → (r : Result (Status × String Global) AllocError)
-        → IfOk r (λ answer. Checks spec c (string_bytes answer.1) answer.0) → Ends (ChecksFiles spec_name cert_name) a b (answered r)
-    ends_last others c read reads (Ok answer) checks = OfFile.read bytes is (OfSpec.good spec spelled (OfFile.read others read (OfCert.good c reads (Aside.says checks))))
-    ends_last others c read reads (Err e) checks = OfFile.read bytes is (OfSpec.good spec spelled (OfFile.read others read (OfCert.good c reads Aside.memory)))
+module _ (spec : Spec) (cert_name : Text) (a b : Told) where
+  -- a command ends with the certificate
+  pub ends_unread : (e : Ending) → Ends (OfFile cert_name cert_limit (λ others. OfCert spec others (λ c. Never))) a b e → Ends (ChecksCertificate spec cert_name) a b e
+  ends_unread e h = ends_map (OfFile cert_name cert_limit (λ others. OfCert spec others (λ c. Never))) (ChecksCertificate spec cert_name) a a b e
+      (of_file cert_name cert_limit (λ others. OfCert spec others (λ c. Never)) (λ others. OfCert spec others (λ c. Aside (Checks spec c)))
+      (λ others c d text status h. of_cert spec (λ c. Aside (Checks spec c)) others c d text status h) a b) h
+
+  -- or with what it shows
+  pub ends_last : (others : Text) (c : Certificate) → IsRead cert_name cert_limit a b others → CertificateReads spec others c → (r : Result (Status × String Global) AllocError)
+      → IfOk r (λ answer. Checks spec c (string_bytes answer.1) answer.0) → Ends (ChecksCertificate spec cert_name) a b (answered r)
+  ends_last others c read reads (Ok answer) checks = OfFile.read others read (OfCert.good c reads (Aside.says checks))
+  ends_last others c read reads (Err e) checks = OfFile.read others read (OfCert.good c reads Aside.memory)

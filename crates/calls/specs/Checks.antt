@@ -49,6 +49,10 @@ Checks spec (certificate.Reachable d) = ChecksDerivation spec d
 
 -- ---- the command
 
+-- the certificate of a file, beside a specification
+abbrev pub ChecksCertificate : Spec → Text → Reply
+ChecksCertificate s cert = OfFile cert cert_limit (λ others. OfCert s others (λ c. Aside (Checks s c)))
+
 -- `check SPEC CERT`: both files, each read whole and understood before the next
 abbrev pub ChecksFiles : Text → Text → Reply
-ChecksFiles spec cert = OfFile spec spec_limit (λ bytes. OfSpec bytes (λ s. OfFile cert cert_limit (λ others. OfCert s others (λ c. Aside (Checks s c)))))
+ChecksFiles spec cert = OfFile spec spec_limit (λ bytes. OfSpec bytes (λ s. ChecksCertificate s cert))

@@ -1,8 +1,9 @@
 //! `check SPEC CERT`: whether a certificate shows what it claims.
 ghost use Rattle.std.specs.Prelude.{◌≡◌, ◌≢◌, ℕ, List, ◌<◌, ◌^◌, length, All, Contains, IfOk, string_bytes};
+ghost use Rattle.tim_io.specs.Shelves.{OthersStay};
 ghost use Rattle.cert_text.specs.Certificates.{IsWithin};
 ghost use Rattle.calls.specs.Files.{told_by};
-ghost use Rattle.calls.specs.Checks.{Checks, ChecksAutomaton, ChecksDerivation, ChecksFiles};
+ghost use Rattle.calls.specs.Checks.{Checks, ChecksAutomaton, ChecksCertificate, ChecksDerivation, ChecksFiles};
 ghost use Rattle.calls.specs.Endings.{Ends, answered};
 
 use crate::answer_line::{automaton_line, derivation_line};
@@ -32,15 +33,23 @@ pub fn check_command<F: Shelf>(alloc: Global, spec: &str, cert: &str, shelf: &mu
     ensures others { (name : List ℕ) → name ≢ spec.now → name ≢ cert.now →
         (F.left shelf.new name ≡ F.left shelf.old name) × (F.faults shelf.new name ≡ F.faults shelf.old name) }
 {
-    let spelled = match specification(alloc, spec, shelf) {
-        Ok(spelled) => spelled,
-        Err(ending) => return ending,
-    };
-    let read = match certificate(alloc, &spelled, cert, shelf) {
-        Ok(read) => read,
-        Err(ending) => return ending,
-    };
-    end_of(checked(alloc, &spelled, &read))
+    match specification(alloc, spec, shelf) {
+        Ok(spelled) => check_beside(alloc, &spelled, cert, shelf),
+        Err(ending) => ending,
+    }
+}
+
+/// Does what is left of `check SPEC CERT` where the specification is understood: reads the certificate and answers.
+fn check_beside<F: Shelf>(alloc: Global, spec: &Spec, cert: &str, shelf: &mut F) -> Ending
+    ensures says { Ends (ChecksCertificate spec.now cert.now) (told_by (F.left shelf.old) (F.faults shelf.old))
+        (told_by (F.left shelf.new) (F.faults shelf.new)) result }
+    ensures others { OthersStay (F.left shelf.old) (F.left shelf.new) cert.now }
+    ensures other_faults { OthersStay (F.faults shelf.old) (F.faults shelf.new) cert.now }
+{
+    match certificate(alloc, spec, cert, shelf) {
+        Ok(read) => end_of(checked(alloc, spec, &read)),
+        Err(ending) => ending,
+    }
 }
 
 /// The end with a status and its line, where there is memory for them.
