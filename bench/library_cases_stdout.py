@@ -13,6 +13,11 @@ CRATE = pathlib.Path(__file__).resolve().parent.parent / 'crates' / 'library_cas
 TABLES = ['calls', 'certificates']
 
 
+def lines(answer):
+    """The lines of an answer, of which the last one may stand in the table without its end."""
+    return answer + '\n' if answer and not answer.endswith('\n') else answer
+
+
 def main():
     text = ''
     for name in TABLES:
@@ -21,7 +26,7 @@ def main():
         if len({call['shows'] for call in calls}) < len(calls):
             sys.exit(f'{name}: two cases show the same')
         text += f'== {name}.toml\n'
-        text += ''.join(f'\n{call["shows"]}\n{call["answers"].rstrip()}\n' for call in calls)
+        text += ''.join(f'\n{call["shows"]}\n{lines(call["answers"])}' for call in calls)
     for name, made in {'args': ''.join(f'{name}.toml\n' for name in TABLES), 'stdout': text}.items():
         path = CRATE / name
         if '--check' in sys.argv[1:]:

@@ -12,7 +12,7 @@ import os
 import re
 import sys
 
-# The files that are made of a function, beside those that are written by hand.
+# The last parts of the names of a function's files, be they made or written by hand.
 PARTS = ['Lts', 'Proof', 'Code', 'Statement', 'Goals', 'Given', 'Answers', 'Tie', 'Met', 'Kinds', 'Invariants']
 
 
@@ -31,6 +31,8 @@ def owner(name):
 
 
 def main():
+    if len(sys.argv) < 2:
+        sys.exit(__doc__)
     folder, *count = sys.argv[1:]
     written = files(folder)
     taken = collections.Counter()

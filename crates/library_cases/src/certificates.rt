@@ -3,7 +3,7 @@ ghost use Rattle.std.specs.Prelude.{◌≡◌, ◌<◌, IsTrue};
 ghost use Rattle.cert_text.specs.Certificates.{IsWithin, outcome_is_over};
 ghost use Rattle.library_cases.specs.Outcomes.{outcome_of};
 
-use crate::members::text_at;
+use crate::table::Call;
 use cert_text::{CertError, Certificate, Outcome, cert_bytes, read_cert};
 use closure_check::check_derivation;
 use std::alloc::{AllocError, Global};
@@ -12,8 +12,8 @@ use ta_core::Spec;
 /// The most bytes of a text that is read.
 const MAX_TEXT: usize = 67_108_864;
 
-// The outcome that the certificate tells.
-fn told(certificate: Certificate) -> Outcome
+/// The outcome that the certificate tells.
+fn told_outcome(certificate: Certificate) -> Outcome
     ensures { result ≡ outcome_of certificate }
 {
     match certificate {
@@ -32,7 +32,7 @@ fn told(certificate: Certificate) -> Outcome
     }
 }
 
-// What the certificate is, and what the replay of its derivation answers, if it has one.
+/// What the certificate is, and what the replay of its derivation answers, if it has one.
 fn kind_line(alloc: Global, spec: &Spec, certificate: &Certificate) -> Result<String, AllocError>
     requires { IsWithin spec.now certificate.now }
 {
@@ -45,7 +45,7 @@ fn kind_line(alloc: Global, spec: &Spec, certificate: &Certificate) -> Result<St
     }
 }
 
-// Whether the outcome's text is this one.
+/// Whether the outcome's text is this one.
 fn again_line(
     alloc: Global,
     spec: &Spec,
@@ -63,19 +63,19 @@ fn again_line(
 }
 
 /// What the reader answers to the first text, and whether what it reads is written as it was read.
-pub fn read_again(alloc: Global, spec: &Spec, texts: &[String]) -> Result<String, AllocError> {
-    let text = text_at(texts, 0).as_bytes();
+pub fn read_again(alloc: Global, spec: &Spec, call: &Call) -> Result<String, AllocError> {
+    let text = call.text(0).as_bytes();
     if text.len() > MAX_TEXT {
-        return format!(in alloc; "too long");
+        return format!(in alloc; "a long text\n");
     }
     match read_cert(alloc, spec, text) {
         Ok(certificate) => {
             let kind = kind_line(alloc, spec, &certificate)?;
-            let again = again_line(alloc, spec, &told(certificate), text)?;
-            format!(in alloc; "{kind}\n{again}")
+            let again = again_line(alloc, spec, &told_outcome(certificate), text)?;
+            format!(in alloc; "{kind}\n{again}\n")
         }
         Err(CertError::Fault(fault)) => {
-            format!(in alloc; "Bad certificate line {}: {:?}", fault.line, fault.kind)
+            format!(in alloc; "Bad certificate line {}: {:?}\n", fault.line, fault.kind)
         }
         Err(CertError::Memory) => Err(AllocError),
     }

@@ -1,6 +1,8 @@
-//! Cases of the libraries' public calls, as data: each case of the tables that the words name is a call on texts or over a
-//! specification, and what the call answers is printed. The stored output has the expected answers.
+//! Cases of the libraries' public calls, as data: each case of the tables that the words name is a call on a text or over a
+//! specification, and what the call answers is printed, in whole lines. The stored output has the expected answers.
 #![tactic(auto)]
+
+ghost use Rattle.std.specs.Prelude.{◌≤◌, length};
 
 mod automata;
 mod certificates;
@@ -25,6 +27,15 @@ use ta_core::Spec;
 use table::{Call, Table};
 use timbuk_reader::read_spec;
 
+/// The most bytes of a specification.
+const MAX_SPEC: usize = 1_048_576;
+
+/// The most rules of a specification: calls ask that 32 bits number them.
+const MAX_RULES: usize = 1000;
+
+/// The most bytes of a text that isn't read beside a specification.
+const MAX_TEXT: usize = 1000;
+
 /// The table in a file.
 fn read_table(rt: &HostRuntime, name: &str) -> Result<Table, Error> {
     let text = fs::read_to_string(rt, name)?;
@@ -34,66 +45,81 @@ fn read_table(rt: &HostRuntime, name: &str) -> Result<Table, Error> {
 /// The specification in a file, where it has one.
 fn spec_of(rt: &HostRuntime, name: &str) -> Result<Option<Spec>, Error> {
     let bytes = fs::read(rt, name)?;
-    if bytes.len() >= 1_048_576 {
+    if bytes.len() > MAX_SPEC {
         return Ok(None);
     }
     Ok(read_spec(rt.alloc(), bytes.as_slice()).ok())
 }
 
-/// What a call over a specification answers, and nothing where there is none of the name.
-fn answer_over(alloc: Global, spec: &Spec, call: &Call) -> Result<Option<String>, AllocError> {
-    let texts = call.texts.as_slice();
-    let numbers = call.numbers.as_slice();
-    if let Some(answer) = specifications::answer(alloc, call.call.as_str(), spec)? {
-        return Ok(Some(answer));
+/// What a call on a text answers.
+fn answer_on_text(alloc: Global, call: &Call) -> Result<String, AllocError> {
+    let text = call.text(0).as_bytes();
+    if text.len() > MAX_TEXT {
+        return format!(in alloc; "a long text\n");
     }
-    let answer = match call.call.as_str() {
-        "term" => steps::spelled_term(alloc, spec, texts)?,
-        "steps" => steps::steps_from(alloc, spec, texts)?,
-        "derivation" => steps::first_bad_step(alloc, spec, texts)?,
-        "steps over a store" => store_steps::compared(alloc, spec, texts)?,
-        "check" => checks::check_with(alloc, spec, texts)?,
-        "open pairs" => pairs::listed(alloc, spec, numbers)?,
-        "matches of the sides" => matching::sides_compared(alloc, spec)?,
-        "matches" => matching::listed(alloc, spec, numbers)?,
-        "least sizes" => sizes::least_sizes(alloc, spec)?,
-        "productive states" => sizes::productive_states(alloc, spec)?,
-        "stages" => stages::last_stage(alloc, spec, numbers)?,
-        "first stage" => stages::first_stage(alloc, spec)?,
-        "forced pairs" => merging::forced_pairs(alloc, spec, numbers)?,
-        "merged" => merging::merged_with_images(alloc, spec)?,
-        "joined" => merging::joined(alloc, spec, numbers)?,
-        "certificate" => certificates::read_again(alloc, spec, texts)?,
-        "undecided" => outcomes::undecided_text(alloc, spec, texts, numbers)?,
-        _ => return Ok(None),
+    match call.call.as_str() {
+        "tokens" => texts::token_lines(alloc, text),
+        "terminals" => texts::terminal_lines(alloc, text),
+        "word" => texts::word_line(alloc, text),
+        "tokens of their own" => texts::own_token_lines(alloc, text),
+        _ => format!(in alloc; "no such call on a text\n"),
+    }
+}
+
+/// What a call over a specification answers.
+fn answer_over(alloc: Global, spec: &Spec, call: &Call) -> Result<String, AllocError>
+    requires { length spec.now.rules ≤ 1000 }
+{
+    match call.call.as_str() {
+        "automata" => specifications::both_automata(alloc, spec),
+        "rules and equations" => specifications::rules_and_equations(alloc, spec),
+        "entries" => specifications::entries(alloc, spec),
+        "term" => steps::spelled_term(alloc, spec, call),
+        "steps" => steps::steps_from(alloc, spec, call),
+        "derivation" => steps::replay_along(alloc, spec, call),
+        "steps over a store" => store_steps::steps_compared(alloc, spec, call),
+        "check" => checks::check_with(alloc, spec, call),
+        "open pairs" => pairs::open_pair_lines(alloc, spec, call),
+        "matches of the sides" => matching::side_matches(alloc, spec),
+        "matches" => matching::left_side_matches(alloc, spec, call),
+        "least sizes" => sizes::least_sizes(alloc, spec),
+        "productive states" => sizes::productive_states(alloc, spec),
+        "stages" => stages::last_stage(alloc, spec, call),
+        "first stage" => stages::first_stage(alloc, spec),
+        "forced pairs" => merging::forced_pairs(alloc, spec, call),
+        "merged" => merging::merged_with_images(alloc, spec),
+        "joined" => merging::joined(alloc, spec, call),
+        "certificate" => certificates::read_again(alloc, spec, call),
+        "undecided" => outcomes::undecided_text(alloc, spec, call),
+        _ => format!(in alloc; "no such call over a specification\n"),
+    }
+}
+
+/// What a call answers over the specification in a file.
+fn answer_over_file(rt: &HostRuntime, name: &str, call: &Call) -> Result<String, Error> {
+    let alloc = rt.alloc();
+    let Some(spec) = spec_of(rt, name)? else {
+        return Ok(format!(in alloc; "no specification\n")?);
     };
-    Ok(Some(answer))
+    if spec.rules.len() > MAX_RULES {
+        return Ok(format!(in alloc; "many rules\n")?);
+    }
+    Ok(answer_over(alloc, &spec, call)?)
 }
 
-/// What a call answers over the specification in a file, and nothing where there is none of the name.
-fn answer_over_file(rt: &HostRuntime, call: &Call) -> Result<Option<String>, Error> {
-    match spec_of(rt, call.spec.as_str())? {
-        Some(spec) => Ok(answer_over(rt.alloc(), &spec, call)?),
-        None => Ok(None),
+/// What a call answers.
+fn answer_to(rt: &HostRuntime, call: &Call) -> Result<String, Error> {
+    match &call.spec {
+        Some(name) => answer_over_file(rt, name.as_str(), call),
+        None => Ok(answer_on_text(rt.alloc(), call)?),
     }
 }
 
-/// What a call answers, and nothing where there is none of the name.
-fn answer_to(rt: &HostRuntime, call: &Call) -> Result<Option<String>, Error> {
-    let on_texts = texts::answer(rt.alloc(), call.call.as_str(), call.texts.as_slice())?;
-    if on_texts.is_some() {
-        return Ok(on_texts);
-    }
-    answer_over_file(rt, call)
-}
-
-/// Prints what a call answers.
+/// Prints what a case shows, and what its call answers.
 fn print_call(rt: &HostRuntime, call: &Call) -> Result<(), Error> {
     println!(rt; "\n{}", call.shows)?;
-    match answer_to(rt, call)? {
-        Some(answer) => println!(rt; "{}", answer.trim_end())?,
-        None => println!(rt; "no such call")?,
-    }
+    let answer = answer_to(rt, call)?;
+    print!(rt; "{answer}")?;
     Ok(())
 }
 

@@ -2,7 +2,7 @@
 ghost use Rattle.std.specs.Prelude.{◌≤◌, IsTrue, length};
 ghost use Rattle.ranked_terms.specs.Terms.{variables_of};
 
-use crate::members::number_at;
+use crate::table::Call;
 use ranked_terms::{Pattern, Seq};
 use state_match::{Match, MatchError, Visit, each_match, matches, plain_matches};
 use std::alloc::{AllocError, Global};
@@ -26,7 +26,7 @@ fn add(numbers: &mut Vec<u32>, states: &[u32], state: u32) -> Result<(), AllocEr
     Ok(())
 }
 
-/// The matches as numbers, up to a limit; none where there are more.
+/// The matches as numbers, up to a limit; `None` where there are more, or where the pattern has more than 16 variables.
 fn match_numbers(
     alloc: Global,
     automaton: &Automaton,
@@ -88,7 +88,7 @@ fn longer_lists(
     Ok(longer)
 }
 
-/// The matches as numbers by a walk over all assignments; none where there are too many variables.
+/// The matches as numbers by a walk over all assignments; `None` where the pattern has more than 16 variables.
 fn walked_numbers(
     alloc: Global,
     automaton: &Automaton,
@@ -114,27 +114,42 @@ fn walked_numbers(
     Ok(Some(numbers))
 }
 
-/// Whether the matches are those of the walk, by plain runs and by all.
-fn are_walked(alloc: Global, automaton: &Automaton, pattern: &Pattern) -> Result<bool, AllocError> {
-    for plain in [false, true] {
-        let found = match_numbers(alloc, automaton, pattern, plain, MANY)?;
-        let walked = walked_numbers(alloc, automaton, pattern, plain)?;
-        if found.is_none() || found != walked {
-            return Ok(false);
-        }
+/// How many numbers the matches of the pattern are, where those of the walk are the same.
+fn walked_count(
+    alloc: Global,
+    automaton: &Automaton,
+    pattern: &Pattern,
+    plain: bool,
+) -> Result<Option<usize>, AllocError> {
+    let found = match_numbers(alloc, automaton, pattern, plain, MANY)?;
+    let walked = walked_numbers(alloc, automaton, pattern, plain)?;
+    if found != walked {
+        return Ok(None);
     }
-    Ok(true)
+    Ok(found.map(|numbers| numbers.len()))
 }
 
-/// For each equation, whether the matches of its sides are those of a walk over all assignments.
-pub fn sides_compared(alloc: Global, spec: &Spec) -> Result<String, AllocError> {
-    let mut line = String::new(alloc);
+/// The same of plain runs, and of all runs.
+fn both_counts(
+    alloc: Global,
+    automaton: &Automaton,
+    pattern: &Pattern,
+) -> Result<String, AllocError> {
+    let plain = walked_count(alloc, automaton, pattern, true)?;
+    let all = walked_count(alloc, automaton, pattern, false)?;
+    format!(in alloc; "{plain:?} {all:?}")
+}
+
+/// For each equation how many numbers the matches of its sides are, by plain runs and by all, where those of a walk over all
+/// assignments are the same.
+pub fn side_matches(alloc: Global, spec: &Spec) -> Result<String, AllocError> {
+    let mut lines = String::new(alloc);
     for equation in spec.equations.as_slice() {
-        let is_left = are_walked(alloc, &spec.initial, equation.left())?;
-        let is_right = are_walked(alloc, &spec.initial, equation.right())?;
-        line.push_str(&format!(in alloc; "{is_left} {is_right}\n")?)?;
+        let left = both_counts(alloc, &spec.initial, equation.left())?;
+        let right = both_counts(alloc, &spec.initial, equation.right())?;
+        lines.push_str(&format!(in alloc; "{left} = {right}\n")?)?;
     }
-    Ok(line)
+    Ok(lines)
 }
 
 /// Keeps the states of the matches that it is handed.
@@ -165,19 +180,16 @@ fn visited(
     Ok(visitor.states)
 }
 
-/// For each rule the matches of its left side by plain runs, up to the first number, and the states of its matches.
-pub fn listed(alloc: Global, spec: &Spec, numbers: &[u32]) -> Result<String, AllocError> {
-    let mut line = String::new(alloc);
+/// For each rule the matches of its left side by plain runs and by all, up to the first number, and the states of its matches
+/// one by one.
+pub fn left_side_matches(alloc: Global, spec: &Spec, call: &Call) -> Result<String, AllocError> {
+    let (automaton, limit) = (&spec.initial, call.number(0));
+    let mut lines = String::new(alloc);
     for rule in spec.rules.as_slice() {
-        let plain = match_numbers(
-            alloc,
-            &spec.initial,
-            rule.left(),
-            true,
-            number_at(numbers, 0),
-        )?;
-        let states = visited(alloc, &spec.initial, rule.left())?;
-        line.push_str(&format!(in alloc; "{plain:?} {:?}\n", states.as_slice())?)?;
+        let plain = match_numbers(alloc, automaton, rule.left(), true, limit)?;
+        let all = match_numbers(alloc, automaton, rule.left(), false, limit)?;
+        let states = visited(alloc, automaton, rule.left())?;
+        lines.push_str(&format!(in alloc; "{plain:?} {all:?} {:?}\n", states.as_slice())?)?;
     }
-    Ok(line)
+    Ok(lines)
 }

@@ -19,16 +19,3 @@ pub fn are_states(states: &[u32], numbers: &[u32]) -> bool
     }
     true
 }
-
-/// The number at a place of a list, and 0 where there is none.
-pub fn number_at(numbers: &[u32], place: usize) -> u32 {
-    numbers.get(place).copied().unwrap_or(0)
-}
-
-/// The text at a place of a list, and the empty one where there is none.
-pub fn text_at(texts: &[String], place: usize) -> &str {
-    match texts.get(place) {
-        Some(text) => text.as_str(),
-        None => "",
-    }
-}

@@ -2,7 +2,7 @@
 ghost use Rattle.std.specs.Prelude.{IsTrue, IfOk, IfSome};
 ghost use Rattle.cert_text.specs.Certificates.{least_is_over, reason_is_over};
 
-use crate::members::{number_at, text_at};
+use crate::table::Call;
 use cert_text::{Mark, Outcome, Reason, cert_bytes};
 use ranked_terms::{Signature, term_from};
 use std::alloc::{AllocError, Global};
@@ -10,7 +10,7 @@ use std::str;
 use ta_clean::Least;
 use ta_core::Spec;
 
-// The common term that the text spells: `Large` where there is no text, and nothing where it is no term.
+/// The common term that the text spells: `Large` where there is no text, and nothing where it is no term.
 fn least_of(
     alloc: Global,
     sig: &Signature,
@@ -27,17 +27,14 @@ fn least_of(
     }
 }
 
-// The reason of this name at the stage, where there is one; the third text is the common term.
-fn reason_of(
-    alloc: Global,
-    sig: &Signature,
-    texts: &[String],
-    stage: u32,
-) -> Result<Option<Reason>, AllocError>
+/// The reason that the call names by its first text, at the stage that its first number tells, where there is one; the third
+/// text is the common term.
+fn reason_of(alloc: Global, sig: &Signature, call: &Call) -> Result<Option<Reason>, AllocError>
     ensures { IfOk result (λ o. IfSome o (λ reason. IsTrue (reason_is_over sig.now reason))) }
 {
-    match text_at(texts, 0) {
-        "meets" => match least_of(alloc, sig, texts.get(2))? {
+    let stage = call.number(0);
+    match call.text(0) {
+        "meets" => match least_of(alloc, sig, call.texts.get(2))? {
             Some(least) => Ok(Some(Reason::Meets(stage, least))),
             None => Ok(None),
         },
@@ -48,26 +45,23 @@ fn reason_of(
     }
 }
 
-// How the search ended within so many steps.
-fn mark_of(search: &str, steps: u32) -> Mark {
-    match search {
-        "over" => Mark::Over(steps),
-        _ => Mark::Exhausted(steps),
+/// How the search ended, as the second text and the second number tell it, where they do.
+fn mark_of(call: &Call) -> Option<Mark> {
+    match call.text(1) {
+        "over" => Some(Mark::Over(call.number(1))),
+        "exhausted" => Some(Mark::Exhausted(call.number(1))),
+        _ => None,
     }
 }
 
-/// The text of the undecided outcome: the first text is the reason, the second says how the search ended, and the third is
-/// the common term, if one is told; the numbers are those of the stage and of the search's steps.
-pub fn undecided_text(
-    alloc: Global,
-    spec: &Spec,
-    texts: &[String],
-    numbers: &[u32],
-) -> Result<String, AllocError> {
-    let Some(reason) = reason_of(alloc, &spec.signature, texts, number_at(numbers, 0))? else {
-        return format!(in alloc; "no reason");
+/// The text of the undecided outcome that the texts and the numbers of the call tell.
+pub fn undecided_text(alloc: Global, spec: &Spec, call: &Call) -> Result<String, AllocError> {
+    let Some(search) = mark_of(call) else {
+        return format!(in alloc; "no end of a search\n");
     };
-    let search = mark_of(text_at(texts, 1), number_at(numbers, 1));
+    let Some(reason) = reason_of(alloc, &spec.signature, call)? else {
+        return format!(in alloc; "no reason\n");
+    };
     let text = cert_bytes(alloc, spec, &Outcome::Undecided { reason, search })?;
     String::from_str(alloc, str::from_utf8(text.as_slice()).unwrap_or("?"))
 }

@@ -4,22 +4,11 @@ use std::alloc::{AllocError, Global};
 use ta_core::Spec;
 use trs_rules::{Entry, Equation, Rule};
 
-/// What a call that tells a part of the specification answers, and nothing where there is none of the name.
-pub fn answer(alloc: Global, call: &str, spec: &Spec) -> Result<Option<String>, AllocError> {
-    let answer = match call {
-        "automata" => both_automata(alloc, spec)?,
-        "rules and equations" => rules_and_equations(alloc, spec)?,
-        "entries" => entries(alloc, spec)?,
-        _ => return Ok(None),
-    };
-    Ok(Some(answer))
-}
-
 /// The two automata, each in a line.
-fn both_automata(alloc: Global, spec: &Spec) -> Result<String, AllocError> {
+pub fn both_automata(alloc: Global, spec: &Spec) -> Result<String, AllocError> {
     let initial = automaton_line(alloc, &spec.initial)?;
     let forbidden = automaton_line(alloc, &spec.forbidden)?;
-    format!(in alloc; "{initial}\n{forbidden}")
+    format!(in alloc; "{initial}\n{forbidden}\n")
 }
 
 /// A rule with its variables.
@@ -35,7 +24,7 @@ fn equation_line(alloc: Global, equation: &Equation) -> Result<String, AllocErro
 }
 
 /// The rules and the equations, each in a line, and the number of declared variables.
-fn rules_and_equations(alloc: Global, spec: &Spec) -> Result<String, AllocError> {
+pub fn rules_and_equations(alloc: Global, spec: &Spec) -> Result<String, AllocError> {
     let mut told = String::new(alloc);
     for rule in spec.rules.as_slice() {
         told.push_str(&rule_line(alloc, rule)?)?;
@@ -43,7 +32,7 @@ fn rules_and_equations(alloc: Global, spec: &Spec) -> Result<String, AllocError>
     for equation in spec.equations.as_slice() {
         told.push_str(&equation_line(alloc, equation)?)?;
     }
-    told.push_str(&format!(in alloc; "{}", spec.vars.len())?)?;
+    told.push_str(&format!(in alloc; "{}\n", spec.vars.len())?)?;
     Ok(told)
 }
 
@@ -54,11 +43,11 @@ fn entry_line(alloc: Global, entry: &Entry) -> Result<String, AllocError> {
 }
 
 /// The entries of the approximation, each in a line, and the number of its states.
-fn entries(alloc: Global, spec: &Spec) -> Result<String, AllocError> {
+pub fn entries(alloc: Global, spec: &Spec) -> Result<String, AllocError> {
     let mut told = String::new(alloc);
     for entry in spec.entries.as_slice() {
         told.push_str(&entry_line(alloc, entry)?)?;
     }
-    told.push_str(&format!(in alloc; "{} {}", spec.extra, spec.approximated)?)?;
+    told.push_str(&format!(in alloc; "{} {}\n", spec.extra, spec.approximated)?)?;
     Ok(told)
 }

@@ -1,47 +1,54 @@
 //! Stages of completion.
+ghost use Rattle.std.specs.Prelude.{◌≤◌, length};
+
 use crate::automata::automaton_line;
-use crate::members::number_at;
-use crate::pairs::pair_line;
+use crate::pairs::pair_lines;
+use crate::table::Call;
 use completion::{Core, StageEnd};
 use critical_pairs::PairError;
 use std::alloc::{AllocError, Global};
-use ta_core::{Options, Spec};
+use ta_core::{MAX_STATES, Options, Spec};
 
 /// How completion ended, and the automaton and the map at which it did.
-fn told(alloc: Global, core: &Core, end: &StageEnd) -> Result<String, AllocError> {
+fn end_line(alloc: Global, core: &Core, end: &StageEnd) -> Result<String, AllocError> {
     let automaton = core.automaton();
     let (next, count) = (automaton.next(), automaton.trans().len());
     let (eps, map) = (automaton.eps(), core.map().as_slice());
-    format!(in alloc; "{end:?} {next} {count} {eps:?} {map:?}")
+    format!(in alloc; "{end:?} {next} {count} {eps:?} {map:?}\n")
 }
 
-/// How completion ends within the numbers as the options `rounds`, `pairs` and `states`.
-pub fn last_stage(alloc: Global, spec: &Spec, numbers: &[u32]) -> Result<String, AllocError> {
-    let (rounds, pairs, states) = (
-        number_at(numbers, 0),
-        number_at(numbers, 1),
-        number_at(numbers, 2),
-    );
-    if rounds > 1000 || pairs > 1000 || states == 0 || states > 16384 || spec.rules.len() > 1000 {
-        return format!(in alloc; "other options");
+/// The call's numbers as the options `rounds`, `pairs` and `states`, where they are in their ranges.
+fn options_of(call: &Call) -> Option<Options> {
+    let (rounds, pairs, states) = (call.number(0), call.number(1), call.number(2));
+    if rounds > 1000 || pairs > 1_000_000 || states == 0 || states > MAX_STATES {
+        return None;
     }
-    let options = Options {
+    Some(Options {
         rounds,
         steps: 5,
         height: 4,
         terms: 5000,
         pairs,
         states,
+    })
+}
+
+/// How completion ends within the options of the call.
+pub fn last_stage(alloc: Global, spec: &Spec, call: &Call) -> Result<String, AllocError>
+    requires { length spec.now.rules ≤ 1000 }
+{
+    let Some(options) = options_of(call) else {
+        return format!(in alloc; "other options\n");
     };
     let (core, end) = completion::stages(alloc, spec, options)?;
-    told(alloc, &core, &end)
+    end_line(alloc, &core, &end)
 }
 
 /// The open pairs of a stage, each in a line.
 fn open_lines(alloc: Global, core: &Core) -> Result<String, AllocError> {
     match core.open_list() {
-        Ok(pairs) => pair_line(alloc, pairs.as_slice()),
-        Err(PairError::More) => format!(in alloc; "more"),
+        Ok(pairs) => pair_lines(alloc, pairs.as_slice()),
+        Err(PairError::More) => format!(in alloc; "more\n"),
         Err(PairError::Memory) => Err(AllocError),
     }
 }
@@ -54,10 +61,9 @@ fn stage_lines(alloc: Global, core: &Core) -> Result<String, AllocError> {
 }
 
 /// The automaton, the map and the open pairs of the first stage.
-pub fn first_stage(alloc: Global, spec: &Spec) -> Result<String, AllocError> {
-    if spec.rules.len() > 1000 {
-        return format!(in alloc; "many rules");
-    }
+pub fn first_stage(alloc: Global, spec: &Spec) -> Result<String, AllocError>
+    requires { length spec.now.rules ≤ 1000 }
+{
     let core = Core::start(alloc, spec, Options::default())?;
     stage_lines(alloc, &core)
 }

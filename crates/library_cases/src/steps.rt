@@ -1,22 +1,25 @@
 //! Terms, steps from them, and derivations.
-use crate::members::text_at;
+ghost use Rattle.std.specs.Prelude.{◌≤◌, length};
+
+use crate::table::Call;
 use ranked_terms::{Position, Seq, Signature, laws, term_from};
 use std::alloc::{AllocError, Global};
 use std::str;
 use ta_core::Spec;
-use trs_rules::{DStep, Derivation, Rule, Successor, replays, successors};
+use trs_rules::{DStep, Derivation, Rule, Successor, first_bad_step, replays, successors};
 
-/// The most rules, and the most steps of a derivation.
-const MANY: usize = 9;
+/// The most steps of a derivation: calls ask that 32 bits number them.
+const MAX_STEPS: usize = 1000;
 
 /// What is printed of the term that the first text spells.
-pub fn spelled_term(alloc: Global, spec: &Spec, texts: &[String]) -> Result<String, AllocError> {
-    let Some(term) = term_from(alloc, &spec.signature, text_at(texts, 0).as_bytes())? else {
-        return format!(in alloc; "no term");
+pub fn spelled_term(alloc: Global, spec: &Spec, call: &Call) -> Result<String, AllocError> {
+    let Some(term) = term_from(alloc, &spec.signature, call.text(0).as_bytes())? else {
+        return format!(in alloc; "no term\n");
     };
     let mut out = Vec::new(alloc);
     term.print_into(&spec.signature, &mut out)?;
-    String::from_str(alloc, str::from_utf8(out.as_slice()).unwrap_or("?"))
+    let text = str::from_utf8(out.as_slice()).unwrap_or("?");
+    format!(in alloc; "{text}\n")
 }
 
 /// A step by its rule, its position and the text that spells its term, if that is this one.
@@ -35,19 +38,23 @@ fn step_line(
 }
 
 /// The steps from the term that the first text spells, to those that the others spell.
-pub fn steps_from(alloc: Global, spec: &Spec, texts: &[String]) -> Result<String, AllocError> {
+pub fn steps_from(alloc: Global, spec: &Spec, call: &Call) -> Result<String, AllocError>
+    requires { length spec.now.rules ≤ 1000 }
+{
     // For the proof: the arguments of a term over a signature can be named by 32 bits.
     laws::of_terms_over();
     let _symbols = spec.signature.len();
     let rules = spec.rules.as_slice();
-    if rules.len() > MANY {
-        return format!(in alloc; "many rules");
-    }
-    let Some(term) = term_from(alloc, &spec.signature, text_at(texts, 0).as_bytes())? else {
-        return format!(in alloc; "no term");
+    let Some(term) = term_from(alloc, &spec.signature, call.text(0).as_bytes())? else {
+        return format!(in alloc; "no term\n");
     };
     let steps = successors(alloc, rules, &term)?;
-    step_lines(alloc, &spec.signature, steps.as_slice(), texts)
+    step_lines(
+        alloc,
+        &spec.signature,
+        steps.as_slice(),
+        call.texts.as_slice(),
+    )
 }
 
 /// The steps, each beside the text in its place behind the first one.
@@ -61,21 +68,22 @@ fn step_lines(
     for (step, text) in steps.iter().zip(texts.iter().skip(1)) {
         lines.push_str(&step_line(alloc, signature, step, text.as_str())?)?;
     }
-    lines.push_str(&format!(in alloc; "{} steps", steps.len())?)?;
+    lines.push_str(&format!(in alloc; "{} steps\n", steps.len())?)?;
     Ok(lines)
 }
 
-/// The derivation along the terms of these texts from the first one, each step by the rule 0 at the root, where they spell terms.
+/// The derivation from the term that the first text spells along those of the others, each step by the rule 0 at the root,
+/// where all of them spell terms.
 fn along(
     alloc: Global,
     signature: &Signature,
-    texts: &[String],
+    call: &Call,
 ) -> Result<Option<Derivation>, AllocError> {
-    let Some(start) = term_from(alloc, signature, text_at(texts, 0).as_bytes())? else {
+    let Some(start) = term_from(alloc, signature, call.text(0).as_bytes())? else {
         return Ok(None);
     };
     let mut steps = Seq::new(alloc);
-    for text in texts.iter().skip(1) {
+    for text in call.texts.iter().skip(1) {
         let Some(step) = root_step(alloc, signature, text.as_str())? else {
             return Ok(None);
         };
@@ -104,18 +112,18 @@ fn replay_line(
     derivation: &Derivation,
 ) -> Result<String, AllocError> {
     let copy = derivation.copy(alloc)?;
-    if copy.steps.len() > MANY || derivation.steps.len() > MANY {
-        return format!(in alloc; "many steps");
+    if copy.steps.len() > MAX_STEPS || derivation.steps.len() > MAX_STEPS {
+        return format!(in alloc; "many steps\n");
     }
-    let bad = trs_rules::first_bad_step(rules, derivation);
+    let bad = first_bad_step(rules, derivation);
     let is_replayed = replays(rules, &copy);
-    format!(in alloc; "first bad step {bad:?}, replays {is_replayed}")
+    format!(in alloc; "first bad step {bad:?}, replays {is_replayed}\n")
 }
 
-/// The first bad step of the derivation along the terms of these texts, each step by the rule 0 at the root.
-pub fn first_bad_step(alloc: Global, spec: &Spec, texts: &[String]) -> Result<String, AllocError> {
-    match along(alloc, &spec.signature, texts)? {
+/// The first bad step of the derivation along the terms of the texts, each step by the rule 0 at the root.
+pub fn replay_along(alloc: Global, spec: &Spec, call: &Call) -> Result<String, AllocError> {
+    match along(alloc, &spec.signature, call)? {
         Some(derivation) => replay_line(alloc, spec.rules.as_slice(), &derivation),
-        None => format!(in alloc; "no derivation"),
+        None => format!(in alloc; "no derivation\n"),
     }
 }

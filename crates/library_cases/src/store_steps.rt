@@ -1,7 +1,7 @@
 //! The steps from terms of a store, beside the steps that `successors` finds from the same terms.
-ghost use Rattle.std.specs.Prelude.{◌<◌, length, All, IsTrue};
+ghost use Rattle.std.specs.Prelude.{◌<◌, ◌≤◌, length, All, IsTrue};
 
-use crate::members::text_at;
+use crate::table::Call;
 use ranked_terms::{Seq, Term, laws, term_from};
 use std::alloc::{AllocError, Global};
 use ta_core::Spec;
@@ -118,18 +118,17 @@ fn has_steps(
 }
 
 /// How many steps there are from the term that the first text spells, and whether the same are found over a store.
-pub fn compared(alloc: Global, spec: &Spec, texts: &[String]) -> Result<String, AllocError> {
+pub fn steps_compared(alloc: Global, spec: &Spec, call: &Call) -> Result<String, AllocError>
+    requires { length spec.now.rules ≤ 1000 }
+{
     // For the proof: the arguments of a term over a signature can be named by 32 bits.
     laws::of_terms_over();
     let _symbols = spec.signature.len();
     let rules = spec.rules.as_slice();
-    if rules.len() > 9 {
-        return format!(in alloc; "many rules");
-    }
-    let Some(term) = term_from(alloc, &spec.signature, text_at(texts, 0).as_bytes())? else {
-        return format!(in alloc; "no term");
+    let Some(term) = term_from(alloc, &spec.signature, call.text(0).as_bytes())? else {
+        return format!(in alloc; "no term\n");
     };
     let steps = successors(alloc, rules, &term)?;
     let same = has_steps(alloc, rules, &term, steps.as_slice())?;
-    format!(in alloc; "{}, the same over a store {same}", steps.len())
+    format!(in alloc; "{}, the same over a store {same}\n", steps.len())
 }

@@ -1,15 +1,11 @@
 //! Tokens, and the terminals that they match.
 ghost use Rattle.std.specs.Prelude.{◌≤◌, length};
 
-use crate::members::text_at;
 use std::alloc::{AllocError, Global};
 use std::str;
 use timbuk_grammar::{Role, Terminal, is_closed_word, is_reserved_word};
 use timbuk_lex::{Ending, Lexeme, TokenKind, lex_of};
 use timbuk_reader::{Token, TokenError, tokens};
-
-/// The most bytes of a text.
-const MAX_TEXT: usize = 1000;
 
 /// Each terminal, with one role of a name for all.
 const TERMINALS: &[Terminal] = &[
@@ -40,22 +36,6 @@ const TERMINALS: &[Terminal] = &[
     Terminal::Quoted,
 ];
 
-/// What a call on a text answers, and nothing where there is none of the name.
-pub fn answer(alloc: Global, call: &str, texts: &[String]) -> Result<Option<String>, AllocError> {
-    let text = text_at(texts, 0).as_bytes();
-    if text.len() > MAX_TEXT {
-        return Ok(None);
-    }
-    let answer = match call {
-        "tokens" => token_line(alloc, text)?,
-        "terminals" => terminal_line(alloc, text)?,
-        "word" => word_line(alloc, text)?,
-        "tokens of their own" => own_token_line(alloc, text)?,
-        _ => return Ok(None),
-    };
-    Ok(Some(answer))
-}
-
 /// A token as its kind, its place and its text.
 fn one_token(alloc: Global, token: &Lexeme<'_>) -> Result<String, AllocError> {
     let kind = match token.kind {
@@ -70,13 +50,13 @@ fn one_token(alloc: Global, token: &Lexeme<'_>) -> Result<String, AllocError> {
 /// How a text ends.
 fn ending_of(alloc: Global, ending: &Ending) -> Result<String, AllocError> {
     match ending {
-        Ending::Whole => format!(in alloc; "whole"),
-        Ending::Stopped { why, line, column } => format!(in alloc; "{why:?} {line}:{column}"),
+        Ending::Whole => format!(in alloc; "whole\n"),
+        Ending::Stopped { why, line, column } => format!(in alloc; "{why:?} {line}:{column}\n"),
     }
 }
 
 /// Each token of the text, and then its ending.
-fn token_line(alloc: Global, text: &[u8]) -> Result<String, AllocError>
+pub fn token_lines(alloc: Global, text: &[u8]) -> Result<String, AllocError>
     requires { length text.now ≤ 1000 }
 {
     let lexed = lex_of(alloc, text)?;
@@ -100,7 +80,7 @@ fn matched(alloc: Global, token: &Lexeme<'_>) -> Result<String, AllocError> {
 }
 
 /// The terminals that each token of the text matches.
-fn terminal_line(alloc: Global, text: &[u8]) -> Result<String, AllocError>
+pub fn terminal_lines(alloc: Global, text: &[u8]) -> Result<String, AllocError>
     requires { length text.now ≤ 1000 }
 {
     let lexed = lex_of(alloc, text)?;
@@ -113,10 +93,10 @@ fn terminal_line(alloc: Global, text: &[u8]) -> Result<String, AllocError>
 }
 
 /// Whether the text is a reserved word, and whether it is a closed one.
-fn word_line(alloc: Global, text: &[u8]) -> Result<String, AllocError> {
+pub fn word_line(alloc: Global, text: &[u8]) -> Result<String, AllocError> {
     let reserved = is_reserved_word(text);
     let closed = is_closed_word(text);
-    format!(in alloc; "reserved {reserved}, closed {closed}")
+    format!(in alloc; "reserved {reserved}, closed {closed}\n")
 }
 
 /// A token that owns its text, as its place and its text.
@@ -126,7 +106,7 @@ fn one_of_its_own(alloc: Global, token: &Token) -> Result<String, AllocError> {
 }
 
 /// Each token of the text as one that owns its text, or the text's fault.
-fn own_token_line(alloc: Global, text: &[u8]) -> Result<String, AllocError>
+pub fn own_token_lines(alloc: Global, text: &[u8]) -> Result<String, AllocError>
     requires { length text.now ≤ 1000 }
 {
     let mut line = String::new(alloc);
@@ -138,7 +118,7 @@ fn own_token_line(alloc: Global, text: &[u8]) -> Result<String, AllocError>
         }
         Err(TokenError::Fault(fault)) => {
             let (kind, row, column) = (fault.kind, fault.line, fault.column);
-            line.push_str(&format!(in alloc; "{kind:?} {row}:{column}")?)?;
+            line.push_str(&format!(in alloc; "{kind:?} {row}:{column}\n")?)?;
         }
         Err(TokenError::Memory) => return Err(AllocError),
     }

@@ -28,9 +28,9 @@ pub struct Case {
     pub shelf: Option<Device>,
     /// How the output behaves.
     pub sink: Option<Device>,
-    /// The name of the expected status. Only the script that makes the stored output reads it.
+    /// The name of the expected status. The program makes no use of it: `bench/cases_stdout.py` makes the stored output from it.
     pub status: String,
-    /// The expected text. Only the script that makes the stored output reads it.
+    /// The expected text, of which the same is true.
     pub writes: String,
     /// The files of which it is printed how many bytes are left, each with the expected number.
     #[serde(default)]

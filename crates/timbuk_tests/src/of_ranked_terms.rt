@@ -8,7 +8,8 @@ fn is_grown(alloc: Global, numbers: &[u32]) -> Result<bool, AllocError> {
     let mut grown = Seq::new(alloc);
     grown.push(7)?;
     grown.push(3)?;
-    Ok(grown == Seq::from_slice(alloc, numbers)?)
+    let is_listed = grown.as_slice() == numbers;
+    Ok(is_listed && grown == Seq::from_slice(alloc, numbers)?)
 }
 
 /// Whether a name has the bytes that it is made of.
@@ -101,6 +102,11 @@ fn is_copied_shape(alloc: Global, shape: &Shape) -> Result<bool, AllocError> {
     Ok(shape.copy(alloc)? == *shape)
 }
 
+/// Whether a symbol as a pattern is no variable of the same number.
+fn is_no_variable(alloc: Global) -> bool {
+    Pattern::Var(1) != Pattern::App(1, Seq::new(alloc))
+}
+
 /// Whether a symbol as a configuration is itself, and no other.
 fn are_configurations(alloc: Global) -> bool {
     let one = Config::App(1, Seq::new(alloc));
@@ -112,6 +118,7 @@ fn patterns_configurations_and_shapes_are_compared_whole(rt: HostRuntime) -> Res
     assert!(rt; is_copied_pattern(rt.alloc())?);
     assert!(rt; is_copied_shape(rt.alloc(), &Shape::Var(1))?);
     assert!(rt; are_configurations(rt.alloc()));
+    assert!(rt; is_no_variable(rt.alloc()));
     assert!(rt; Pattern::Var(1) != Pattern::Var(2));
     assert!(rt; Config::State(1) != Config::State(2));
     assert!(rt; Shape::Var(1) != Shape::State(1));

@@ -182,6 +182,7 @@ fn are_made_by_members(alloc: Global) -> Result<bool, Fail> {
     Ok(has_lists(alloc, &automaton)? && is_copied(alloc, &automaton)?)
 }
 
+// Whether the automaton's copy has the lists.
 fn is_copied(alloc: Global, automaton: &Automaton) -> Result<bool, Fail> {
     let copy = automaton.copy()?;
     has_lists(alloc, &copy)
@@ -221,11 +222,12 @@ fn binary(alloc: Global, left: Term, right: Term) -> Result<Term, AllocError> {
     Ok(Term { sym: 2, args })
 }
 
-// The term `1(0)`, and the term `2(1(0), 0)`.
+// The term `1(0)`.
 fn inner(alloc: Global) -> Result<Term, AllocError> {
     unary(alloc, constant(alloc))
 }
 
+// The term `2(1(0), 0)`.
 fn whole(alloc: Global) -> Result<Term, AllocError> {
     let left = inner(alloc)?;
     binary(alloc, left, constant(alloc))
@@ -293,15 +295,17 @@ fn runs_along_epsilon_transitions(rt: HostRuntime) -> Result<(), Fail> {
     Ok(())
 }
 
+// The set of 1, 4 and 7.
 fn set(alloc: Global) -> Result<StateSet, AllocError> {
     StateSet::from_slice(alloc, &[1, 4, 7])
 }
 
-// Whether a set and a copied map have the members that they are made of.
+// Whether these are the members of that set.
 fn is_set(alloc: Global, states: &[u32]) -> Result<bool, AllocError> {
     Ok(set(alloc)?.as_slice() == states)
 }
 
+// Whether a copied map has the images that it is made of.
 fn is_map(alloc: Global, images: &[u32]) -> Result<bool, AllocError> {
     let map = Map::from_slice(alloc, images)?;
     Ok(map.copy(alloc)?.as_slice() == images)

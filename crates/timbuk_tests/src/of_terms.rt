@@ -96,7 +96,7 @@ fn has_subterm(alloc: Global, term: &Term, at: &Position) -> Result<bool, AllocE
     Ok(term.subterm(at).is_some() && whole.is_some())
 }
 
-/// Whether the text of so many symbols spells a term, which is printed so, and has this size and height.
+/// Whether `s` so many times before `a` is a term, and printed so.
 fn is_tower(alloc: Global, height: u32) -> Result<bool, Fail> {
     let (signature, _) = system_of(alloc, RENAMING)?;
     let text = tower(alloc, height)?;
@@ -118,12 +118,18 @@ fn is_no_text(alloc: Global, text: &[u8]) -> Result<bool, Fail> {
     Ok(found.is_none())
 }
 
+/// Whether `s` so many times before `a` is no text of a term.
+fn is_no_tower(alloc: Global, height: u32) -> Result<bool, Fail> {
+    let text = tower(alloc, height)?;
+    is_no_text(alloc, text.as_bytes())
+}
+
 #[test]
 fn a_text_of_1024_symbols_spells_a_term(rt: HostRuntime) -> Result<(), Fail> {
     assert!(rt; is_tower(rt.alloc(), 1023)?);
     assert_eq!(rt; deep_measures(rt.alloc())?, [1024, 7, 1024, 7]);
     // One symbol more is one too many.
-    assert!(rt; !is_tower(rt.alloc(), 1024)?);
+    assert!(rt; is_no_tower(rt.alloc(), 1024)?);
     assert!(rt; is_no_text(rt.alloc(), b"s(\xff)")?);
     Ok(())
 }
@@ -172,7 +178,7 @@ fn has_one_step(alloc: Global, signature: &Signature, rules: &[Rule]) -> Result<
     Ok(positions.len() == 1024 && found.len() == 1 && are_all)
 }
 
-/// Whether it is so by the rule for a constant.
+/// Whether the term of 1,024 symbols has one step by the rule for a constant, which is replayed.
 fn is_renamed_in_one_step(alloc: Global) -> Result<bool, Fail> {
     let (signature, rules) = system_of(alloc, RENAMING)?;
     has_one_step(alloc, &signature, rules.as_slice())
@@ -225,7 +231,8 @@ fn has_root_step(alloc: Global, signature: &Signature, rule: Rule) -> Result<boo
     is_root_step(alloc, signature, text.as_str(), found.as_slice())
 }
 
-/// Whether it is so of the rule from so many symbols before a variable to the same.
+/// Whether the rule from so many symbols before a variable to the same has one step from the term of 1,024 symbols, at the
+/// root and to the term itself.
 fn is_matched_at_the_root(alloc: Global, height: u32) -> Result<bool, Fail> {
     let (signature, _) = system_of(alloc, RENAMING)?;
     let sym = signature.find("s").ok_or("no symbol")?;

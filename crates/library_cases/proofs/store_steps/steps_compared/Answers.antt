@@ -1,4 +1,4 @@
-use Rattle.library_cases.proofs.store_steps.compared.Goals as goal
+use Rattle.library_cases.proofs.store_steps.steps_compared.Goals as goal
 
 pub successors-requires-clause-arguments : goal.successors-requires-clause-arguments
 successors-requires-clause-arguments c =
