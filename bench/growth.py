@@ -249,6 +249,32 @@ def leaning(count, chance):
     return head + automaton("A", states, [*transitions, "a -> q0"], ["q0"], chance)
 
 
+def spread(count, chance):
+    """One state of x lets s(x) run to so many states, each of which goes with one state of y."""
+    parts, others = [f"p{i}" for i in range(count)], [f"y{i}" for i in range(count)]
+    transitions = [f"s(q0) -> {p}" for p in parts] + [f"f({p},{y}) -> t" for p, y in zip(parts, others)]
+    head = "Ops a:0 s:1 f:2\nVars x y\nTRS R\nf(s(x),y) -> f(s(x),y)\n"
+    return head + automaton("A", ["q0", "t", *parts, *others], ["a -> q0", *transitions], ["t"], chance)
+
+
+def inner(count, chance):
+    """One state of x goes with so many states of f(y,z), each of which has one state of y and one of z."""
+    parts, first, last = ([f"{letter}{i}" for i in range(count)] for letter in "pac")
+    transitions = [f"f(q0,{p}) -> t" for p in parts] + [f"f({a},{c}) -> {p}" for p, a, c in zip(parts, first, last)]
+    head = "Ops k:0 f:2\nVars x y z\nTRS R\nf(x,f(y,z)) -> f(x,f(y,z))\n"
+    return head + automaton("A", ["q0", "t", *parts, *first, *last], ["k -> q0", *transitions], ["t"], chance)
+
+
+def comb(count, chance):
+    """The same with a comb under the second argument."""
+    parts, deeper, first, last, more = ([f"{letter}{i}" for i in range(count)] for letter in "pdacw")
+    transitions = [f"h(q0,{p}) -> t" for p in parts] + [f"g({d},{w}) -> {p}" for p, d, w in zip(parts, deeper, more)]
+    transitions += [f"g({a},{c}) -> {d}" for d, a, c in zip(deeper, first, last)]
+    head = "Ops k:0 g:2 h:2\nVars x y z w\nTRS R\nh(x,g(g(y,z),w)) -> h(x,g(g(y,z),w))\n"
+    states = ["q0", "t", *parts, *deeper, *first, *last, *more]
+    return head + automaton("A", states, ["k -> q0", *transitions], ["t"], chance)
+
+
 def ending(count, chance):
     names = [f"x{i}" for i in range(count)]
     side = f"h({names[-1]})"
@@ -374,6 +400,9 @@ FAMILIES = [
     (deep, [500, 1000, 2000]),
     (left, [500, 1000, 2000]),
     (leaning, [24, 48, 96]),
+    (spread, [500, 1000, 2000]),
+    (inner, [500, 1000, 2000]),
+    (comb, [500, 1000, 2000]),
     (ending, [4, 8, 16]),
     (many, [1000, 2000, 4000]),
     (pairs, [750, 1500, 3000]),

@@ -58,7 +58,7 @@ pub record IsNumberLine (head bytes rest : Text) (numbers : List ℕ) : Type 0 w
   pub told : bytes ≡ text ++ 10 ∷ rest
   pub appends : AppendsBehind head text [] numbers
 
--- or with no such line
+-- the bytes begin with no such line
 pub data LacksNumberLine (head bytes : Text) : Type 0 where
   endless : Lacks 10 bytes → LacksNumberLine head bytes
   unlike : (text rest : Text) → bytes ≡ text ++ 10 ∷ rest → Lacks 10 text → ((ns : List ℕ) → text ≡ join_with_byte 32 (head ∷ map number_word ns) → ⊥)

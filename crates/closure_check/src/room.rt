@@ -184,7 +184,7 @@ impl Room {
     }
 }
 
-// So many empty sets of states below the bound.
+// Sets of states below the bound, so many of them, and empty. The contract says the bound of each alone.
 fn empty_sets(alloc: Global, count: usize, bound: usize) -> Result<Vec<Marks>, AllocError>
     requires { bound < 2 ^ 32 }
     ensures { IfOk result (λ sets. All (λ (set : Marked). set.size ≡ bound) sets.items) }

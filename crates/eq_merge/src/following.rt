@@ -70,7 +70,8 @@ fn turn(
 }
 
 /// The classes of what is equated in the part of the automaton, with these classes for its states, that has the transitions at
-/// these places. The only error is running out of memory.
+/// these places. The contract says so of some part: which one it is decides only how soon merges are found. The only error is
+/// running out of memory.
 fn joined_near(
     alloc: Global,
     automaton: &Automaton,

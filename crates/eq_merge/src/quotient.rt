@@ -34,7 +34,8 @@ fn least_alone(alloc: Global, a: &Automaton, classes: &Renaming) -> Result<Autom
     Automaton::with_states(alloc, a.next(), states.as_slice())
 }
 
-/// Adds what the automaton has besides its states, with the states that stand for them. The only error is running out of memory.
+/// Adds the final states and the transitions, each state replaced by the one that stands for it. The only error is running out
+/// of memory.
 fn add_renamed(
     alloc: Global,
     a: &Automaton,

@@ -13,8 +13,8 @@ use ta_core::StateSet;
 /// To which states each argument of a pattern can run, whatever the variables stand for, and the same of its own arguments.
 #[derive(Drop)]
 pub(crate) struct Below {
-    /// The states of so many first variables decide the pattern's, and of none where it has no variables. What is worth being
-    /// looked up goes by it, and no result does.
+    /// So many first variables decide to which states the pattern runs: 0 where it has none. It decides only what is looked up,
+    /// never which matches there are.
     pub(crate) until: usize,
     /// The states of each argument.
     pub(crate) sets: Vec<Known>,
@@ -61,6 +61,7 @@ impl Below {
         }
     }
 }
+
 /// The states to which the pattern can run, where that is known of its arguments. The only error is running out of memory.
 fn reached(
     alloc: Global,

@@ -81,9 +81,9 @@ pub(crate) fn value(
     }
 }
 
-/// As `value`, and none at once where the states of more first variables decide the pattern's than stand. The only error is
-/// running out of memory.
-fn value_below(
+/// As `value`, but none at once where the pattern has a variable that stands for no state yet. The only error is running out of
+/// memory.
+fn value_if_decided(
     alloc: Global,
     automaton: &Tabled,
     all: &StateSet,
@@ -134,7 +134,7 @@ pub(crate) fn narrow(
             let mut sets = Vec::new(alloc);
             for (place, arg) in args.as_slice().iter().enumerate() {
                 let deeper = &below.args[place];
-                match value_below(alloc, automaton, all, vars, bound, arg, deeper)? {
+                match value_if_decided(alloc, automaton, all, vars, bound, arg, deeper)? {
                     Some(set) => {
                         let listed = set.listed_if(alloc, automaton.has_many(*sym))?;
                         sets.push(listed)?;

@@ -16,7 +16,7 @@ pub fn productive(alloc: Global, automaton: &Automaton) -> Result<StateSet, Allo
     StateSet::from_states(alloc, states)
 }
 
-/// The same as a list. The only error is running out of memory.
+/// As `productive`, but as a list. The only error is running out of memory.
 fn productive_states(alloc: Global, automaton: &Automaton) -> Result<Vec<u32>, AllocError>
     ensures { IfOk result (λ states. (q : ℕ) → Contains states.items q ↔ IsProductive automaton.now q) }
 {

@@ -60,8 +60,8 @@ pub fn common_witness(
     sized_witness(alloc, first, second, &sizes, some_first, some_second)
 }
 
-/// The least final states of the two automata to which one ground term runs, as `least_meeting` finds them. The only error is
-/// running out of memory.
+/// Final states of the two automata to which one ground term runs, or none where no term is accepted by both. The only error
+/// is running out of memory.
 fn some_meeting(
     alloc: Global,
     first: &Automaton,
@@ -74,8 +74,8 @@ fn some_meeting(
     Ok(least_meeting(&mut meetings, first, second))
 }
 
-/// A term of least size that both automata accept, by the least sizes, and two final states to which one ground term runs. The
-/// only error is running out of memory.
+/// A term of least size that both automata accept, built from the least sizes, where one ground term runs to these two final
+/// states. The only error is running out of memory.
 fn sized_witness(
     alloc: Global,
     first: &Automaton,

@@ -191,7 +191,7 @@ fn with_fresh(base: &Automaton, fresh: u32) -> Result<Automaton, AllocError>
     Ok(grown)
 }
 
-// Adds the transitions of a set. When memory runs out the automaton is as before.
+// Adds the transitions of a set. The only error is running out of memory.
 fn add_trans_of(grown: &mut Automaton, set: BTreeSet<Trans>) -> Result<(), AllocError>
     requires { All (IsTransOf grown.old.states) set.keys }
     ensures { OnOk result (grown.new ≡ record grown.old { trans = in_order trans_cmp (grown.old.trans ++ set.keys) }) }
@@ -200,7 +200,7 @@ fn add_trans_of(grown: &mut Automaton, set: BTreeSet<Trans>) -> Result<(), Alloc
     grown.add_all_trans(more)
 }
 
-// Adds the epsilon transitions of a set. When memory runs out the automaton is as before.
+// Adds the epsilon transitions of a set. The only error is running out of memory.
 fn add_eps_of(grown: &mut Automaton, set: BTreeSet<(u32, u32)>) -> Result<(), AllocError>
     requires { All (IsEpsOf grown.old.states) set.keys }
     ensures { OnOk result (grown.new ≡ record grown.old { eps = in_order pair_cmp (grown.old.eps ++ set.keys) }) }

@@ -136,8 +136,8 @@ impl<'s, 'a> Reader<'s, 'a> {
     }
 }
 
-/// The initial automaton, of the first states that are declared for it, of this number, and the second one, of all of its own.
-/// The only error is running out of memory.
+/// The initial automaton, of the first of the states that are declared for it, of this number, and the second automaton, of all
+/// of its states. The only error is running out of memory.
 fn automata_of(
     alloc: Global,
     initial: StartedAutomaton,
